@@ -1,0 +1,9 @@
+//! Symbols of option series, prices, and the rows of a term.
+#![tactic(auto)]
+
+pub mod limits;
+pub mod rows;
+pub mod symbols;
+
+pub use rows::{Price, StrikeRow, TermView};
+pub use symbols::{Side, Symbol, SymbolFault};
