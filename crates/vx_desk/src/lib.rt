@@ -1,0 +1,12 @@
+//! Devices: four slots that are opened by name, read and written, with lines cut from what is read
+//! and bytes sent whole. Everything is stated over what a desk tells of its slots, so that the same
+//! contract holds over memory and over real files.
+#![tactic(auto)]
+
+mod device;
+mod lines;
+mod sending;
+
+pub use device::{Desk, Failed, Slot};
+pub use lines::{Line, ReadFault};
+pub use sending::SendFault;
