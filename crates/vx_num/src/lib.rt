@@ -1,0 +1,12 @@
+//! Whole-number helpers of the index calculator: directed division, decimal texts, a counter of
+//! steps, and the laws of fractions.
+//!
+//! Everything the product computes is exact arithmetic of whole numbers and of fractions compared
+//! by cross multiplication. The definitions stand in `specs/`.
+#![tactic(auto)]
+
+mod fault;
+mod quotient;
+
+pub use fault::{DecimalFault, NoMemory};
+pub use quotient::{div_ceil, div_floor};
