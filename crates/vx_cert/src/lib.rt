@@ -1,0 +1,12 @@
+//! Certificates: what a published figure rests on, number by number, so that somebody else can
+//! test it. This crate has their types, and reads and writes them as lines of JSON.
+#![tactic(auto)]
+
+pub mod certificate;
+pub mod fault;
+pub mod limits;
+pub mod rows;
+
+pub use certificate::{CertBody, CertFigure, CertTerm, Certificate, Ends, Pair};
+pub use fault::CertFault;
+pub use rows::{CertRow, CertRows};

@@ -1,0 +1,61 @@
+ghost use Rattle.std.specs.Prelude.{◌≡◌, List, [], ◌∷◌, ◌++◌, OnOk, OnErr};
+
+use std::alloc::Global;
+use std::marker::Model;
+use vx_num::NoMemory;
+
+/// One selected strike and its contribution to the strip's sum.
+#[derive(Clone, Copy, Debug, PartialEq, Eq)]
+pub struct CertRow {
+    /// Thousandths of a point.
+    pub strike: u32,
+    /// The doubled width, in thousandths of a point.
+    pub d: u32,
+    /// The price, in quarter cents.
+    pub q4: u32,
+    /// The contribution's low end.
+    pub lo: u64,
+    /// The contribution's high end.
+    pub hi: u64,
+}
+
+/// The rows of a strip in rising order of strike; contracts see the list of them.
+#[derive(Debug, Drop)]
+pub struct CertRows {
+    list: Vec<CertRow>,
+}
+
+impl Model for CertRows {
+    ghost use Rattle.std.specs.Prelude.{List};
+    ghost use Rattle.vx_cert.specs.declared.rows.CertRow.{CertRow};
+
+    ghost Value = { List CertRow };
+
+    ghost view = { λ rows. rows.list.items };
+}
+
+impl CertRows {
+    /// The empty list.
+    pub fn new(alloc: Global) -> CertRows
+        ensures { result ≡ [] }
+    {
+        CertRows {
+            list: Vec::new(alloc),
+        }
+    }
+
+    /// Puts a row last. After a refusal the list is unchanged.
+    pub fn push(&mut self, item: CertRow) -> Result<(), NoMemory>
+        ensures ok { OnOk result (self.new ≡ self.old ++ item ∷ []) }
+        ensures err { OnErr result (self.new ≡ self.old) }
+    {
+        self.list.push(item).map_err(|_| NoMemory)
+    }
+
+    /// The rows in order.
+    pub fn items(&self) -> &[CertRow]
+        ensures { result.now ≡ self.now }
+    {
+        self.list.as_slice()
+    }
+}
