@@ -1,0 +1,4 @@
+pub mod Cleared
+pub mod Terms
+pub mod Series
+pub mod Members
