@@ -9,4 +9,4 @@ mod sending;
 
 pub use device::{Desk, Failed, Slot};
 pub use lines::{Line, ReadFault};
-pub use sending::SendFault;
+pub use sending::{SendFault, send};
