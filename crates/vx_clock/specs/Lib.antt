@@ -1,0 +1,4 @@
+pub mod Digits
+pub mod Day
+pub mod Minutes
+pub mod Terms
