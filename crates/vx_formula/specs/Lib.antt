@@ -1,0 +1,19 @@
+-- The formula, in the order in which a figure is computed.
+
+-- a term, its closest pair and its forward
+pub mod Pair
+pub mod Term
+pub mod Forward
+-- the level, the strikes that take part, and their strip
+pub mod Level
+pub mod Selection
+pub mod Strip
+-- the variance, and the index
+pub mod Variance
+pub mod Index
+pub mod Rounds
+pub mod Between
+-- where there is no figure
+pub mod Refusal
+pub mod Undecided
+pub mod Clear
