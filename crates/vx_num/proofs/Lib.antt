@@ -1,2 +1,5 @@
+pub mod Differences
 pub mod Whole
+pub mod Squares
 pub mod Quotients
+pub mod Fractions
