@@ -47,11 +47,11 @@ time_of _ = None
 
 -- the event is at a minute after this one
 abbrev pub is_later_than : ℕ → Event → Bool
-is_later_than time e = option_map_or (nat_lt time) false (time_of e)
+is_later_than time e = option_map_or (nat_lt time) (time_of e) false
 
 -- time-back: the time is less than that of an earlier line
 abbrev pub is_time_back : List Event → Event → Bool
-is_time_back before e = option_map_or (λ time. list_any (is_later_than time) before) false (time_of e)
+is_time_back before e = option_map_or (λ time. list_any (is_later_than time) before) (time_of e) false
 
 -- duplicate-expiry: the expiry was declared before
 abbrev pub is_duplicate_expiry : List Event → Event → Bool
@@ -99,7 +99,7 @@ is_days_ahead x day =
 
 -- time-range: an expiry that is not 1 to 180 days after the trade date
 abbrev pub is_out_of_days : List Event → Event → Bool
-is_out_of_days before (event.Expiry x) = not (option_map_or (is_days_ahead x) false (trade_date before))
+is_out_of_days before (event.Expiry x) = not (option_map_or (is_days_ahead x) (trade_date before) false)
 is_out_of_days before _ = false
 
 -- second-opening: an opening after an opening
