@@ -59,14 +59,14 @@ with_strike None ks = ks
 with_strike (Some k) ks = insert_strike k ks
 
 -- the strike at which an event lists a series of the expiry
-abbrev pub strike_of : Expiry → Event → Option ℕ
-strike_of x (event.Series s) = if is_same_expiry x (expiry_of s) then Some s.strike else None
-strike_of x _ = None
+abbrev pub listed_strike : Expiry → Event → Option ℕ
+listed_strike x (event.Series s) = if is_same_expiry x (expiry_of s) then Some s.strike else None
+listed_strike x _ = None
 
 -- the strikes at which a series of the expiry is listed on either side, in rising order, each once
 abbrev pub strikes_of : Expiry → List Event → List ℕ
 strikes_of x [] = []
-strikes_of x (e ∷ events) = with_strike (strike_of x e) (strikes_of x events)
+strikes_of x (e ∷ events) = with_strike (listed_strike x e) (strikes_of x events)
 
 -- a strike is listed where both its put and its call are
 abbrev pub is_strike_listed : Expiry → List Event → ℕ → Bool

@@ -1,6 +1,6 @@
 -- The opening: what stood when it was taken (after Cboe's special opening quotation; which quote and
 -- which trade of a series count is this project's own).
-use Rattle.std.specs.Prelude.{ℕ, ◌+◌, ◌*◌, Bool, true, false, List, [], ◌∷◌, map, Option, Some, None, ℤ, length, if◌then◌else◌}
+use Rattle.std.specs.Prelude.{ℕ, ◌+◌, ◌*◌, true, List, map, Option, Some, None, ℤ, length}
 use Rattle.vx_clock.specs.declared.terms.Expiry.{Expiry}
 use Rattle.vx_symbol.specs.declared.symbols.Symbol.{Symbol}
 use Rattle.vx_symbol.specs.declared.rows.Price.{Price}
@@ -8,7 +8,7 @@ use Rattle.vx_symbol.specs.declared.rows.StrikeRow.{StrikeRow}
 use Rattle.vx_feed.specs.declared.events.Event.{Event}
 use Rattle.vx_feed.specs.declared.events.Event.TheVariants as event
 use Rattle.vx_feed.specs.Said.{first_said}
-use Rattle.vx_feed.specs.Standing.{before_opening, is_opening, opening_trade, standing_rate}
+use Rattle.vx_feed.specs.Standing.{before_opening, opening_trade, standing_rate}
 use Rattle.vx_feed.specs.Listed.{declared_expiries, listed_strikes, row_of, standing_price}
 
 -- the minute at which an event takes the opening

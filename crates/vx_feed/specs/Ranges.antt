@@ -1,7 +1,8 @@
 -- The ranges of what an event may say (this project's own).
-use Rattle.std.specs.Prelude.{ℕ, ◌≤◌, ℤ, ◌≤ℤ◌}
+use Rattle.std.specs.Prelude.{ℕ, ◌≤◌}
 use Rattle.vx_clock.specs.Day.{IsDayInRange}
-use Rattle.vx_clock.specs.declared.limits.TheConstants.{MINUTE_MAX, RATE_MIN, RATE_MAX}
+use Rattle.vx_clock.specs.declared.limits.TheConstants.{MINUTE_MAX}
+use Rattle.vx_symbol.specs.Rows.{IsRateInRange}
 use Rattle.vx_symbol.specs.declared.limits.TheConstants.{STRIKE_MIN, STRIKE_MAX, PRICE_MAX}
 use Rattle.vx_symbol.specs.declared.symbols.Symbol.{Symbol}
 use Rattle.vx_feed.specs.declared.events.Event.{Event}
@@ -11,10 +12,6 @@ use Rattle.vx_feed.specs.declared.limits.TheConstants.{LINES_MAX}
 -- a minute of a day
 abbrev pub IsMinute : ℕ → Type 0
 IsMinute time = time ≤ MINUTE_MAX
-
--- a rate from -5 to 25 percent, in 10^-8 per year
-abbrev pub IsRate : ℤ → Type 0
-IsRate rate = (RATE_MIN ≤ℤ rate) × (rate ≤ℤ RATE_MAX)
 
 -- a series of a day of the years 2000 to 2099, with a strike from 100 to 50,000 points
 abbrev pub IsSeries : Symbol → Type 0
@@ -28,7 +25,7 @@ IsPrice price = price ≤ PRICE_MAX
 abbrev pub IsInRange : Event → Type 0
 IsInRange (event.Header day) = IsDayInRange day
 IsInRange (event.Expiry x) = IsDayInRange x.date
-IsInRange (event.Rate x rate) = IsDayInRange x.date × IsRate rate
+IsInRange (event.Rate x rate) = IsDayInRange x.date × IsRateInRange rate
 IsInRange (event.Series s) = IsSeries s
 IsInRange (event.Quote time s bid ask) = IsMinute time × IsSeries s × IsPrice bid × IsPrice ask
 IsInRange (event.Trade time s price) = IsMinute time × IsSeries s × (1 ≤ price) × IsPrice price
