@@ -2,7 +2,7 @@
 use Rattle.std.specs.Prelude.{ℕ, ◌*◌, ◌-◌, pos, ◌-ℤ◌}
 use Rattle.vx_num.specs.Fraction.{Fraction, whole, ◌+ᶠ◌, ◌*ᶠ◌, ◌/ᶠ◌}
 use Rattle.vx_formula.specs.declared.limits.TheConstants.{YEAR_MINUTES, THIRTY_DAYS}
-use Rattle.vx_formula.specs.Term.{Term, InBracket}
+use Rattle.vx_formula.specs.Term.{Term, InBracket, HasSmallExponent}
 use Rattle.vx_formula.specs.Level.{IsLevelAt}
 use Rattle.vx_formula.specs.Variance.{variance_at}
 
@@ -19,6 +19,10 @@ single_square w = whole (pos YEAR_MINUTES) *ᶠ w /ᶠ THIRTY_DAYS
 pub data Basis : Type 0 where
   TwoTerms : (near next : Term) (target : ℕ) → Basis
   OneTerm : (term : Term) → Basis
+
+abbrev pub HasSmallExponents : Basis → Type 0
+HasSmallExponents (TwoTerms near next target) = HasSmallExponent near × HasSmallExponent next
+HasSmallExponents (OneTerm term) = HasSmallExponent term
 
 -- both levels hold at a point of the box, and the square meets the test there
 pub record MeetsAt (near next : Term) (target k1 k2 : ℕ) (Test : Fraction → Type 0) (e1 e2 : Fraction) : Type 0 where

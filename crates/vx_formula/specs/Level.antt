@@ -1,5 +1,5 @@
 -- The level K0. After the Cboe VIX white paper: the listed strike equal to the forward, or else the one immediately below it.
-use Rattle.std.specs.Prelude.{ℕ, ◌<◌, pos, List, map, Contains}
+use Rattle.std.specs.Prelude.{ℕ, ◌<◌, pos, List, map, Contains, AllPairs}
 use Rattle.vx_num.specs.Fraction.{Fraction, whole, ◌≤ᶠ◌, ◌<ᶠ◌}
 use Rattle.vx_symbol.specs.declared.rows.StrikeRow.{StrikeRow}
 use Rattle.vx_formula.specs.Term.{Term, InBracket}
@@ -8,6 +8,10 @@ use Rattle.vx_formula.specs.Forward.{forward_at}
 -- the strikes of the rows, in thousandths of a point
 abbrev pub strikes : List StrikeRow → List ℕ
 strikes rows = map (λ row. row.strike) rows
+
+-- each strike is below all later ones
+abbrev pub StrikesRise : List StrikeRow → Type 0
+StrikesRise rows = AllPairs (λ a b. a.strike < b.strike) rows
 
 abbrev pub IsListed : List StrikeRow → ℕ → Type 0
 IsListed rows strike = Contains (strikes rows) strike

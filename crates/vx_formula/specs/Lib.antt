@@ -17,3 +17,5 @@ pub mod Between
 pub mod Refusal
 pub mod Undecided
 pub mod Clear
+-- what holds of them
+pub mod Laws

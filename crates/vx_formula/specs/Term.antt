@@ -1,7 +1,7 @@
 -- One term: what the formula reads of it.
 use Rattle.std.specs.Prelude.{◌≡◌, ℕ, ◌*◌, ℤ, pos, ◌*ℤ◌, List, Option, Some}
 use Rattle.vx_num.specs.Fraction.{Fraction}
-use Rattle.vx_bracket.specs.Bracket.{Bracket}
+use Rattle.vx_bracket.specs.Bracket.{Bracket, IsWithinOne}
 use Rattle.vx_symbol.specs.declared.rows.StrikeRow.{StrikeRow}
 use Rattle.vx_formula.specs.declared.limits.TheConstants.{YEAR_MINUTES, RATE_UNITS}
 use Rattle.vx_formula.specs.Pair.{Pair, IsClosestPair}
@@ -34,3 +34,7 @@ exponent rate minutes = record { top = rate *ℤ pos minutes; bottom = YEAR_MINU
 -- e is in the term's bracket of depth n: Taylor's sum of n + 1 terms and its remainder leave room for e^(R*T) to be e
 abbrev pub InBracket : Term → ℕ → Fraction → Type 0
 InBracket term n e = Bracket n (exponent term.rate term.minutes) e
+
+-- the exponent is from -1 to 1, as it is for every rate and every number of minutes in range
+abbrev pub HasSmallExponent : Term → Type 0
+HasSmallExponent term = IsWithinOne (exponent term.rate term.minutes)
