@@ -7,7 +7,7 @@ pub const EXPIRIES_MAX: usize = 16;
 pub const STRIKES_MAX: usize = vx_symbol::limits::ROWS_MAX;
 
 /// The most lines of a feed.
-pub const LINES_MAX: u32 = 10_000_000;
+pub const LINES_MAX: u32 = vx_num::limits::FEED_LINES_MAX;
 
 /// The most bytes of a feed line, without its LF.
 pub const LINE_LEN_MAX: usize = 256;

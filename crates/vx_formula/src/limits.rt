@@ -16,7 +16,7 @@ pub const FORWARD_UNITS: u32 = 1_000_000_000;
 pub const STRIP_TOTAL_MAX: u32 = 2;
 
 /// The greatest figure, in cents.
-pub const CENTS_MAX: u32 = 320_000;
+pub const CENTS_MAX: u64 = vx_num::limits::CENTS_MAX;
 
 /// The greatest distance of a figure's two printed ends, in millionths of a point.
 pub const INDEX_WIDTH_MAX: u32 = 200;

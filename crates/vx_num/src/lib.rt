@@ -6,6 +6,7 @@
 #![tactic(auto)]
 
 mod fault;
+pub mod limits;
 mod quotient;
 
 pub use fault::{DecimalFault, NoMemory};

@@ -13,7 +13,7 @@ pub const PRICE_MAX: u32 = 5_000_000;
 pub const HALF_MAX: u32 = 10_000_000;
 
 /// The most listed strikes of a term.
-pub const ROWS_MAX: usize = 2_000;
+pub const ROWS_MAX: usize = vx_num::limits::STRIKES_MAX;
 
 /// The bytes of a symbol.
 pub const SYMBOL_LEN: usize = 21;
