@@ -1,0 +1,18 @@
+use thiserror::Error;
+
+/// Why a line is no position. Of several causes the first that holds, in this order, is answered.
+#[derive(Clone, Copy, Debug, PartialEq, Eq, Error)]
+pub enum PositionFault {
+    /// Memory was refused. It has no cause in the line, and may come in place of any answer.
+    #[error("no memory")]
+    NoMemory,
+    /// A byte outside 0x20 to 0x7E, or a double quote.
+    #[error("a byte that is not allowed")]
+    Byte,
+    /// Another number of fields than three.
+    #[error("another number of fields")]
+    Fields,
+    /// The first field, counted from 1, that is not of its form or range.
+    #[error("field {0} is not of its form or range")]
+    Field(u32),
+}
