@@ -1,0 +1,4 @@
+pub mod Exits
+pub mod Operands
+pub mod Requests
+pub mod Words

@@ -1,0 +1,41 @@
+-- The words of a command line, those after the program's name. The command forms are this project's own.
+use Rattle.std.specs.Prelude.{◌==◌, ℕ, Bool, false, not, List, [], ◌∷◌, Option, Some, None, codes, if◌then◌else◌, option_map, option_and_then}
+use Rattle.std.specs.List.{list_all}
+use Rattle.std.specs.Str.{bytes_eq}
+
+abbrev pub Text : Type 0
+Text = List ℕ
+
+-- the word is not empty and does not begin with `-` (45)
+abbrev pub is_plain_word : Text → Bool
+is_plain_word [] = false
+is_plain_word (byte ∷ rest) = not (byte == 45)
+
+-- the two words, where there are just two
+abbrev pub two_of : List Text → Option (Text × Text)
+two_of (first ∷ second ∷ []) = Some (first, second)
+two_of _ = None
+
+-- what a command line asks for, with the names of its files
+pub data Command : Type 0 where
+  check : Text → Text → Command
+
+-- no file is named twice
+abbrev pub two_files : Text × Text → Option (Text × Text)
+two_files files = if bytes_eq files.0 files.1 then None else Some files
+
+-- `check FEED CERTS`
+abbrev pub check_form : List Text → Option Command
+check_form operands = option_map (λ files. check files.0 files.1) (option_and_then two_files (two_of operands))
+
+-- the form that a command's name asks for
+abbrev pub named_form : Text → List Text → Option Command
+named_form name operands = if bytes_eq name (codes "check") then check_form operands else None
+
+abbrev pub form_of : List Text → Option Command
+form_of [] = None
+form_of (name ∷ operands) = named_form name operands
+
+-- the command that the words ask for, where they are a command form
+abbrev pub command_of : List Text → Option Command
+command_of words = if list_all is_plain_word words then form_of words else None
