@@ -1,3 +1,10 @@
+ghost use Rattle.std.specs.Prelude.{◌≡◌, IfOk, Ok};
+ghost use Rattle.vx_clock.specs.Day.{IsDayInRange, day_of_date, day_of_text};
+
+use crate::digits;
+use crate::limits::{YEAR_MAX, YEAR_MIN};
+use jiff::ToSpan;
+use jiff::civil::{self, Date};
 use thiserror::Error;
 
 /// A day of the calendar: the number of days from 1970-01-01 to it, so that 1970-01-01 itself is 0.
@@ -16,4 +23,48 @@ pub enum DayFault {
     /// The calendar has no such month, or no such day in that month.
     #[error("no such day")]
     NoSuchDay,
+}
+
+/// The day of a year, a month from 1 and a day of the month from 1.
+///
+/// The calendar is `jiff`'s: how long each month is, and that the days of all months, one after
+/// another, are counted from 1970-01-01, is what `jiff` promises. Answers `Year` for a year that is
+/// not one of 2000 to 2099, else `NoSuchDay` for a day that the calendar has not, and never `Form`.
+pub fn day_of(year: u32, month: u32, day: u32) -> Result<DayNo, DayFault>
+    ensures value { result ≡ day_of_date year month day }
+    ensures in_range { IfOk result IsDayInRange }
+{
+    if year < YEAR_MIN || year > YEAR_MAX {
+        return Err(DayFault::Year);
+    }
+    if month > 12 || day > 31 {
+        return Err(DayFault::NoSuchDay);
+    }
+    match Date::new(year as i16, month as i8, day as i8) {
+        Ok(date) => Ok(DayNo(date.to_plain().to_unix_epoch_day())),
+        Err(_) => Err(DayFault::NoSuchDay),
+    }
+}
+
+/// The day that a text of the form `yyyy-mm-dd` names.
+///
+/// Answers `Form` for any text but ten bytes that are digits with `-` at the fifth and the eighth
+/// place, and then as [`day_of`].
+pub fn read_day(text: &[u8]) -> Result<DayNo, DayFault>
+    ensures value { result ≡ day_of_text text.now }
+    ensures in_range { IfOk result IsDayInRange }
+{
+    if text.len() != 10 || text[4] != b'-' || text[7] != b'-' {
+        return Err(DayFault::Form);
+    }
+    let Some(year) = digits::number(&text[..4]) else {
+        return Err(DayFault::Form);
+    };
+    let Some(month) = digits::number(&text[5..7]) else {
+        return Err(DayFault::Form);
+    };
+    let Some(day) = digits::number(&text[8..10]) else {
+        return Err(DayFault::Form);
+    };
+    day_of(year, month, day)
 }

@@ -2,8 +2,9 @@
 #![tactic(auto)]
 
 pub mod days;
+pub mod digits;
 pub mod limits;
 pub mod terms;
 
-pub use days::{DayFault, DayNo};
-pub use terms::{Expiry, Moment, NoTerm, Root};
+pub use days::{DayFault, DayNo, day_of, read_day};
+pub use terms::{Expiry, Moment, NoTerm, Root, minutes_to};

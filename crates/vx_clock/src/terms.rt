@@ -1,4 +1,11 @@
+ghost use Rattle.std.specs.Prelude.{◌≡◌, ◌≤◌, pos, ◌≤ℤ◌};
+ghost use Rattle.vx_clock.specs.Minutes.{days_until, minutes_between};
+
 use crate::days::DayNo;
+use crate::limits::{
+    AFTERNOON_SETTLEMENT, DAY_MINUTES, DAYS_AHEAD_MAX, MINUTE_MAX, MINUTES_MAX, MINUTES_MIN,
+    MORNING_SETTLEMENT,
+};
 
 /// The root of a series' symbol, which says when its options settle.
 #[derive(Clone, Copy, Debug, PartialEq, Eq, Hash)]
@@ -7,6 +14,20 @@ pub enum Root {
     Spx,
     /// `SPXW`: settled in the afternoon, at 15:00 in Chicago.
     Spxw,
+}
+
+impl Root {
+    ghost use Rattle.vx_clock.specs.Terms.{root_rank};
+
+    /// The order of roots on one date.
+    pub(crate) fn rank(self) -> u8
+        ensures { result ≡ root_rank self }
+    {
+        match self {
+            Root::Spx => 0,
+            Root::Spxw => 1,
+        }
+    }
 }
 
 /// A term of options: its root and the day on which it settles.
@@ -29,4 +50,25 @@ pub struct Moment {
 pub enum NoTerm {
     Near,
     Next,
+}
+
+/// The minutes from a moment to a term's settlement.
+///
+/// They are the minutes left of the current day until midnight, 1,440 for each whole day between,
+/// and those of the settlement day: 510 for `SPX`, 900 for `SPXW`. The three parts are those of the
+/// Cboe VIX white paper. The settlement is 1 to 181 days ahead.
+pub fn minutes_to(now: Moment, e: Expiry) -> u32
+    requires minute { now.minute ≤ MINUTE_MAX }
+    requires ahead { pos 1 ≤ℤ days_until now.day e.date }
+    requires near { days_until now.day e.date ≤ℤ pos DAYS_AHEAD_MAX }
+    ensures value { result ≡ minutes_between now e }
+    ensures least { MINUTES_MIN ≤ result }
+    ensures most { result ≤ MINUTES_MAX }
+{
+    let days = (e.date.0 - now.day.0) as u32;
+    let settlement = match e.root {
+        Root::Spx => MORNING_SETTLEMENT,
+        Root::Spxw => AFTERNOON_SETTLEMENT,
+    };
+    (DAY_MINUTES - u32::from(now.minute)) + DAY_MINUTES * (days - 1) + settlement
 }
