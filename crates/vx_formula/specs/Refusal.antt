@@ -134,13 +134,23 @@ TickRefuses P facts (of_near reason) = SomeTermRefuses P facts.near reason
 TickRefuses P facts (of_next reason) = SomeTermRefuses P facts.next reason
 TickRefuses P facts negative_variance = TickIsNegative facts
 
--- the order of a tick's answers: 5 and 14 are those of an undecided forward, 21 that of undecided cents, 23 that of a figure
+-- the order of a tick's answers, of which the last, 23, is a figure
 abbrev pub tick_place : TickReason → ℕ
 tick_place no_near_term = 1
 tick_place no_next_term = 2
 tick_place (of_near reason) = 2 + term_place reason
 tick_place (of_next reason) = 11 + term_place reason
 tick_place negative_variance = 22
+
+-- the places of the undecided answers
+abbrev pub near_undecided_place : ℕ
+near_undecided_place = 5
+
+abbrev pub next_undecided_place : ℕ
+next_undecided_place = 14
+
+abbrev pub cents_undecided_place : ℕ
+cents_undecided_place = 21
 
 abbrev pub FirstRefusal : ℕ → TickFacts → TickReason → Type 0
 FirstRefusal P facts reason = IsFirst (TickRefuses P facts) tick_place reason
@@ -157,11 +167,14 @@ pub data OpeningReason : Type 0 where
   of_term : TermReason → OpeningReason
   negative_opening : OpeningReason
 
-pub record OpeningIsNegative (facts : OpeningFacts) : Type 0 where
+pub record IsOpeningBasis (facts : OpeningFacts) (term : Term) : Type 0 where
   pub term_facts : TermFacts
   pub term_is : facts.term ≡ Some term_facts
-  pub term : Term
   pub term_of : IsTermOf term_facts term
+
+pub record OpeningIsNegative (facts : OpeningFacts) : Type 0 where
+  pub term : Term
+  pub is_basis : IsOpeningBasis facts term
   pub negative : SquareMeets (OneTerm term) (λ x. x <ᶠ whole (pos 0))
 
 abbrev pub OpeningRefuses : ℕ → OpeningFacts → OpeningReason → Type 0
@@ -170,12 +183,18 @@ OpeningRefuses P facts no_term = facts.term ≡ None
 OpeningRefuses P facts (of_term reason) = SomeTermRefuses P facts.term reason
 OpeningRefuses P facts negative_opening = OpeningIsNegative facts
 
--- 5 is the place of an undecided forward, 12 that of undecided cents, 14 that of a figure
+-- the order of an opening's answers, of which the last, 14, is a figure
 abbrev pub opening_place : OpeningReason → ℕ
 opening_place no_opening = 1
 opening_place no_term = 2
 opening_place (of_term reason) = 2 + term_place reason
 opening_place negative_opening = 13
+
+abbrev pub opening_undecided_place : ℕ
+opening_undecided_place = 5
+
+abbrev pub opening_cents_undecided_place : ℕ
+opening_cents_undecided_place = 12
 
 abbrev pub FirstOpeningRefusal : ℕ → OpeningFacts → OpeningReason → Type 0
 FirstOpeningRefusal P facts reason = IsFirst (OpeningRefuses P facts) opening_place reason

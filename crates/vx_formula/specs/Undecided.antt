@@ -1,6 +1,6 @@
 -- An undecided answer: the true value cannot be told from a boundary by ends that lie this close. This project's own.
 use Rattle.std.specs.Prelude.{◌≡◌, ℕ, ◌+◌, ◌*◌, ◌≤◌, ◌⊎◌, ℤ, pos, ◌+ℤ◌, ◌*ℤ◌, ◌≤ℤ◌, ◌<ℤ◌}
-use Rattle.vx_formula.specs.declared.limits.TheConstants.{CENTS_MAX, INDEX_WIDTH_MAX, FORWARD_UNITS, FORWARD_WIDTH_MAX}
+use Rattle.vx_formula.specs.declared.limits.TheConstants.{CENT, HALF_CENT, CENTS_MAX, INDEX_WIDTH_MAX, FORWARD_UNITS, FORWARD_WIDTH_MAX}
 use Rattle.vx_formula.specs.Term.{Term}
 use Rattle.vx_formula.specs.Level.{IsListed}
 use Rattle.vx_formula.specs.Index.{Basis}
@@ -8,7 +8,7 @@ use Rattle.vx_formula.specs.Between.{Between, ForwardBetween}
 
 -- where the rounded figure changes, in millionths of a point: each half cent, and 0, below which there is no root
 abbrev pub IsBoundary : ℤ → Type 0
-IsBoundary b = (b ≡ pos 0) ⊎ ((k : ℕ) × (k ≤ CENTS_MAX) × (b ≡ pos (10000 * k + 5000)))
+IsBoundary b = (b ≡ pos 0) ⊎ ((k : ℕ) × (k ≤ CENTS_MAX) × (b ≡ pos (CENT * k + HALF_CENT)))
 
 -- a boundary that is above the low end and at most the high end
 pub record Straddles (lo hi : ℤ) : Type 0 where

@@ -12,6 +12,12 @@ pub const RATE_UNITS: u32 = 100_000_000;
 /// How many units of `10^-12` point make a thousandth of a point.
 pub const FORWARD_UNITS: u32 = 1_000_000_000;
 
+/// A cent, a hundredth of an index point, in millionths of a point.
+pub const CENT: u32 = 10_000;
+
+/// Half a cent, in millionths of a point.
+pub const HALF_CENT: u32 = 5_000;
+
 /// The greatest sum of a strip that is accepted.
 pub const STRIP_TOTAL_MAX: u32 = 2;
 
