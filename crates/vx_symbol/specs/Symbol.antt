@@ -2,13 +2,13 @@
 -- root padded with spaces on its right to six, the digits `yymmdd` of a day, `C` or `P`, and the
 -- strike in thousandths of a point in eight digits. That `yy` means 20yy, that the roots are `SPX`
 -- and `SPXW`, and the range of strikes, is this project's own.
-use Rattle.std.specs.Prelude.{ℕ, ◌+◌, Bool, ◌&&◌, ◌==◌, nat_le, List, length, take, codes, bytes_eq, slice_index, slice_range, Option, Some, None, Result, Ok, Err, if◌then◌else◌}
+use Rattle.std.specs.Prelude.{ℕ, ◌+◌, ◌≤◌, Bool, ◌&&◌, ◌==◌, nat_le, List, length, take, codes, bytes_eq, slice_index, slice_range, Option, Some, None, Result, Ok, Err, if◌then◌else◌}
+use Rattle.std.specs.Result.{result_ok}
 use Rattle.vx_clock.specs.declared.days.DayNo.{DayNo}
-use Rattle.vx_clock.specs.declared.days.DayFault.{DayFault}
 use Rattle.vx_clock.specs.declared.limits.TheConstants.{YEAR_MIN}
 use Rattle.vx_clock.specs.declared.terms.Root.{Root}
 use Rattle.vx_clock.specs.declared.terms.Root.TheVariants.{Spx, Spxw}
-use Rattle.vx_clock.specs.Day.{day_of_date}
+use Rattle.vx_clock.specs.Day.{IsDayInRange, day_of_date}
 use Rattle.vx_clock.specs.Digits.{are_digits, digits_value}
 use Rattle.vx_symbol.specs.declared.limits.TheConstants.{STRIKE_MIN, STRIKE_MAX, SYMBOL_LEN}
 use Rattle.vx_symbol.specs.declared.symbols.Side.{Side}
@@ -33,15 +33,10 @@ root_of text =
     if bytes_eq text (root_text Spx) then Some Spx
     else (if bytes_eq text (root_text Spxw) then Some Spxw else None)
 
--- the day, where there is one
-abbrev pub found_day : Result DayNo DayFault → Option DayNo
-found_day (Ok day) = Some day
-found_day (Err _) = None
-
 -- the day that the digits `yymmdd` write
 abbrev pub date_of : List ℕ → Option DayNo
 date_of text =
-    if are_digits text then found_day (day_of_date (YEAR_MIN + digits_value (take 2 text))
+    if are_digits text then result_ok (day_of_date (YEAR_MIN + digits_value (take 2 text))
     (digits_value (slice_range text 2 4)) (digits_value (slice_range text 4 6)))
     else None
 
@@ -52,6 +47,10 @@ side_of byte =
     else (if byte == side_byte Put then Some Put else None)
 
 -- the strike is from 100 to 50,000 points
+abbrev pub IsStrikeInRange : ℕ → Type 0
+IsStrikeInRange strike = (STRIKE_MIN ≤ strike) × (strike ≤ STRIKE_MAX)
+
+-- the test of it
 abbrev pub is_strike_in_range : ℕ → Bool
 is_strike_in_range strike = nat_le STRIKE_MIN strike && nat_le strike STRIKE_MAX
 
@@ -77,3 +76,8 @@ symbol_of_text text =
     (date_of (slice_range text 6 12)) (side_of (slice_index text 12))
     (strike_of (slice_range text 13 21))
     else Err Length
+
+-- the day is of the years 2000 to 2099, and the strike in range
+pub record IsSymbolInRange (s : Symbol) : Type 0 where
+  pub date : IsDayInRange s.date
+  pub strike : IsStrikeInRange s.strike

@@ -1,5 +1,11 @@
+ghost use Rattle.std.specs.Prelude.{◌≡◌, ◌≤◌, length, IfOk, IfSome};
+ghost use Rattle.vx_clock.specs.Day.{IsDayInRange};
+ghost use Rattle.vx_symbol.specs.Symbol.{IsSymbolInRange, IsStrikeInRange, root_of, date_of, side_of, strike_of, symbol_of_text};
+
+use crate::limits::{STRIKE_MAX, STRIKE_MIN, SYMBOL_LEN};
 use thiserror::Error;
-use vx_clock::{DayNo, Root};
+use vx_clock::limits::YEAR_MIN;
+use vx_clock::{DayNo, Root, day_of, digits};
 
 /// Which side of a strike a series is.
 #[derive(Clone, Copy, Debug, PartialEq, Eq, Hash)]
@@ -37,4 +43,73 @@ pub enum SymbolFault {
     /// The last eight are not the digits of a strike from 100 to 50,000 points.
     #[error("no strike in range")]
     Strike,
+}
+
+/// The series that a symbol of 21 bytes names.
+///
+/// A symbol is a root padded with spaces on its right to six bytes, the digits `yymmdd` of a day of
+/// 20yy, `C` or `P`, and eight digits of strike in thousandths of a point, as the Options Clearing
+/// Corporation writes it. Takes no memory.
+pub fn read_symbol(bytes: &[u8]) -> Result<Symbol, SymbolFault>
+    ensures value { result ≡ symbol_of_text bytes.now }
+    ensures in_range { IfOk result IsSymbolInRange }
+{
+    if bytes.len() != SYMBOL_LEN {
+        return Err(SymbolFault::Length);
+    }
+    let root = read_root(&bytes[..6]).ok_or(SymbolFault::Root)?;
+    let date = read_date(&bytes[6..12]).ok_or(SymbolFault::Date)?;
+    let side = read_side(bytes[12]).ok_or(SymbolFault::Side)?;
+    let strike = read_strike(&bytes[13..21]).ok_or(SymbolFault::Strike)?;
+    Ok(Symbol {
+        root,
+        date,
+        side,
+        strike,
+    })
+}
+
+fn read_root(text: &[u8]) -> Option<Root>
+    ensures { result ≡ root_of text.now }
+{
+    if text == b"SPX   ".as_slice() {
+        Some(Root::Spx)
+    } else if text == b"SPXW  ".as_slice() {
+        Some(Root::Spxw)
+    } else {
+        None
+    }
+}
+
+fn read_date(text: &[u8]) -> Option<DayNo>
+    requires { length text.now ≡ 6 }
+    ensures value { result ≡ date_of text.now }
+    ensures in_range { IfSome result IsDayInRange }
+{
+    let year = digits::number(&text[..2])?;
+    let month = digits::number(&text[2..4])?;
+    let day = digits::number(&text[4..6])?;
+    day_of(YEAR_MIN + year, month, day).ok()
+}
+
+fn read_side(byte: u8) -> Option<Side>
+    ensures { result ≡ side_of byte }
+{
+    match byte {
+        b'C' => Some(Side::Call),
+        b'P' => Some(Side::Put),
+        _ => None,
+    }
+}
+
+fn read_strike(text: &[u8]) -> Option<u32>
+    requires { length text.now ≤ 8 }
+    ensures value { result ≡ strike_of text.now }
+    ensures in_range { IfSome result IsStrikeInRange }
+{
+    let strike = digits::number(text)?;
+    if strike < STRIKE_MIN || strike > STRIKE_MAX {
+        return None;
+    }
+    Some(strike)
 }
