@@ -1,0 +1,3 @@
+pub mod CsvLines
+pub mod CsvReader
+pub mod BlockLines

@@ -1,0 +1,11 @@
+//! Splits lines at their commas, a block of lines at a time.
+//!
+//! The splitting is `csv`'s. Making one of its readers costs as much as a hundred lines, so one reader
+//! goes over a whole block of lines.
+#![tactic(auto)]
+
+mod block;
+mod table;
+
+pub use block::{LineBlock, is_plain_line};
+pub use table::{FieldTable, Fields};
