@@ -1,1 +1,3 @@
 pub mod SendingLemmas
+pub mod ReaderLemmas
+pub mod NextLemmas

@@ -39,7 +39,7 @@ SentSoFar-start bytes t = record {
   rest = record { left = refl; is_open = refl; name = refl; opens = refl; reads = refl };
 }
 
-take-more : (xs : List ℕ) (n k : ℕ) → take n xs ++ take k (drop n xs) ≡ take (n + k) xs
+pub take-more : (xs : List ℕ) (n k : ℕ) → take n xs ++ take k (drop n xs) ≡ take (n + k) xs
 take-more xs n k =
     ap (λ ys. take n xs ++ ys) (sym (drop-take n k xs)) ∙ (ap (λ ys. ys ++ drop n (take (n + k) xs)) (sym (take-take n (n + k) xs (omega arith))) ∙ take-append-drop n (take (n + k) xs))
 

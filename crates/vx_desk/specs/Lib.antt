@@ -1,3 +1,5 @@
 pub mod Slots
 pub mod Told
 pub mod Sending
+pub mod Lines
+pub mod Refill

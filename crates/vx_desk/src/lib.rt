@@ -5,8 +5,10 @@
 
 mod device;
 mod lines;
+mod reader;
 mod sending;
 
 pub use device::{Desk, Failed, Slot};
-pub use lines::{Line, ReadFault};
+pub use lines::{LF, Line, ReadFault};
+pub use reader::{LONGEST_LINE, LineReader};
 pub use sending::{SendFault, send};

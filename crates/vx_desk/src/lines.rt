@@ -1,5 +1,8 @@
 use thiserror::Error;
 
+/// The byte that ends each line.
+pub const LF: u8 = b'\n';
+
 /// One line of a slot, numbered from 1, without the LF that ends it. `LineReader::bytes` gives its
 /// bytes.
 #[derive(Clone, Copy, Debug, PartialEq, Eq)]

@@ -1,0 +1,184 @@
+-- Steps and answers of `next`, over what is told of its slot.
+use Rattle.std.proofs.Common.{◌≡◌, ◌≢◌, ℕ, ◌+◌, ◌<◌, ◌≤◌, Bool, true, false, List, [], ◌∷◌, ◌++◌, length, take, drop, Option, Some, None, Result, Ok, Err, refl, sym, ◌∙◌, ap, subst, arith}
+use Rattle.std.specs.Prelude.{IfSome}
+use Rattle.std.specs.Io.KnownBytes.{prepend_known, IsAtEnd}
+use Rattle.std.proofs.lemmas.List.{append_assoc, append-nil, length-append, length-take-le, take-append-drop, take-append-le, take-take, drop_more}
+use Rattle.std.proofs.lemmas.List.Elements.{All-take}
+use Rattle.vx_desk.specs.declared.device.Failed.{Failed}
+use Rattle.vx_desk.specs.declared.lines.Line.{Line}
+use Rattle.vx_desk.specs.declared.lines.ReadFault.{ReadFault}
+use Rattle.vx_desk.specs.declared.lines.ReadFault.TheVariants.{Device, LineTooLong}
+use Rattle.vx_desk.specs.declared.lines.TheConstants.{LF}
+use Rattle.vx_desk.specs.Told.{Told, ChangesReads}
+use Rattle.vx_desk.specs.Lines.{ReaderState, to_come, HasNoLf, IsTooLong, IsCutOff, next_number, GivesLine, GivesNone, Answers, CountsReads}
+use Rattle.vx_desk.specs.Refill.{IsFirstLf, Refills, IsCut, Cuts, EndsInput}
+use Rattle.vx_desk.proofs.ReaderLemmas.{prepend_known-append}
+
+-- the reader with these bytes waiting, and no line given by this call
+abbrev pub with_waiting : ReaderState → List ℕ → ReaderState
+with_waiting old bytes = record old { waiting = bytes; last = None; last_bytes = [] }
+
+-- blocks were read since the call began, and no byte to come was lost
+pub record ReadsOn (old now : ReaderState) (before after : Told) : Type 0 where
+  pub state : now ≡ with_waiting old now.waiting
+  pub open_yet : old.is_ended ≡ false
+  pub come : to_come now after ≡ to_come old before
+  pub counts : after.failed_reads ≡ before.failed_reads
+  pub rest : ChangesReads before after
+
+pub ChangesReads-refl : (t : Told) → ChangesReads t t
+ChangesReads-refl t = record { sent = refl; is_open = refl; name = refl; opens = refl; writes = refl }
+
+pub ChangesReads-trans : {a b c : Told} → ChangesReads a b → ChangesReads b c → ChangesReads a c
+ChangesReads-trans p q = record {
+  sent = q.sent ∙ p.sent;
+  is_open = q.is_open ∙ p.is_open;
+  name = q.name ∙ p.name;
+  opens = q.opens ∙ p.opens;
+  writes = q.writes ∙ p.writes;
+}
+
+pub ReadsOn-start : (old now : ReaderState) (t : Told) → now ≡ record old { last = None; last_bytes = [] } → now.is_ended ≡ false → ReadsOn old now t t
+ReadsOn-start old now t is open_yet =
+    let waiting = ap (λ (s : ReaderState). s.waiting) is in
+    record {
+      state = is ∙ ap (with_waiting old) (sym waiting);
+      open_yet = sym (ap (λ (s : ReaderState). s.is_ended) is) ∙ open_yet;
+      come = ap (λ xs. prepend_known xs t.left) waiting;
+      counts = refl;
+      rest = ChangesReads-refl t;
+    }
+
+pub ReadsOn-more : (old now new : ReaderState) (before mid after : Told) (result : Result ℕ Failed) → ReadsOn old now before mid → Refills now new mid after result → after.failed_reads ≡ mid.failed_reads → ChangesReads mid after → ReadsOn old new before after
+ReadsOn-more old now new before mid after result on more counts rest = record {
+  state = more.state ∙ ap (λ (s : ReaderState). record s { waiting = new.waiting }) on.state;
+  open_yet = on.open_yet;
+  come = more.kept ∙ on.come;
+  counts = counts ∙ on.counts;
+  rest = ChangesReads-trans on.rest rest;
+}
+
+-- the waiting bytes with the line, its LF and what comes after
+split_at_lf : (xs : List ℕ) (place : ℕ) → IsFirstLf xs place → xs ≡ (take place xs ++ LF ∷ []) ++ drop (place + 1) xs
+split_at_lf xs place lf =
+    sym (take-append-drop place xs) ∙ (ap (λ ys. take place xs ++ ys) (drop_more xs place 0 lf.within ∙ ap (λ b. b ∷ drop (place + 1) xs) lf.lf) ∙ sym (append_assoc (take place xs) (LF ∷ []) (drop (place + 1) xs)))
+
+-- the line that is cut off is the first of the bytes to come
+pub gives_line : (old now new : ReaderState) (before after : Told) (place : ℕ) (line : Line) → ReadsOn old now before after → IsFirstLf now.waiting place → IsCut now new place line → GivesLine old new (to_come old before) (to_come new after) line
+gives_line old now new before after place line on lf cut =
+    let number = ap (λ (s : ReaderState). s.number) on.state in
+    let bytes = ap (λ (s : ReaderState). s.last_bytes) cut.state in
+    let size : length new.last_bytes ≡ place = ap length bytes ∙ length-take-le place now.waiting (omega (arith, lf.within)) in
+    record {
+      numbered = cut.numbered ∙ ap next_number number;
+      number = ap (λ (s : ReaderState). s.number) cut.state ∙ sym cut.numbered;
+      last = ap (λ (s : ReaderState). s.last) cut.state;
+      size = cut.size ∙ ap (λ n. line.start + n) (sym size);
+      is_line = record {
+        fits = omega (arith, size, cut.fits, ap (λ (s : ReaderState). s.limit) on.state);
+        no_lf = subst HasNoLf (sym bytes) lf.no_lf;
+      };
+      taken = sym on.come ∙ (ap (λ xs. prepend_known xs after.left) (split_at_lf now.waiting place lf) ∙
+          (prepend_known-append (take place now.waiting ++ LF ∷ []) (drop (place + 1) now.waiting) after.left ∙
+          (ap (λ xs. prepend_known (xs ++ LF ∷ []) (prepend_known (drop (place + 1) now.waiting) after.left)) (sym bytes) ∙
+          ap (λ xs. prepend_known (new.last_bytes ++ LF ∷ []) (prepend_known xs after.left)) (sym (ap (λ (s : ReaderState). s.waiting) cut.state)))));
+      open_yet = (on.open_yet, ap (λ (s : ReaderState). s.is_ended) cut.state ∙ (ap (λ (s : ReaderState). s.is_ended) on.state ∙ on.open_yet));
+    }
+
+-- a call that gives no line after it read on
+gives_none : (old now new : ReaderState) (before after : Told) → ReadsOn old now before after → new.number ≡ now.number → new.last ≡ now.last → new.waiting ≡ now.waiting → GivesNone old new (to_come old before) (to_come new after)
+gives_none old now new before after on number last waiting = record {
+  number = number ∙ ap (λ (s : ReaderState). s.number) on.state;
+  last = last ∙ ap (λ (s : ReaderState). s.last) on.state;
+  kept = ap (λ xs. prepend_known xs after.left) waiting ∙ on.come;
+}
+
+too_long_before : (limit : ℕ) (waiting : List ℕ) (known : Option (List ℕ)) → IsTooLong limit waiting → IfSome (prepend_known waiting known) (IsTooLong limit)
+too_long_before limit waiting None h = tt
+too_long_before limit waiting (Some rest) h = record {
+  more = omega (arith, length-append waiting rest, h.more);
+  no_lf = subst HasNoLf (sym (take-append-le (limit + 1) waiting rest (omega (arith, h.more)))) h.no_lf;
+}
+
+-- too many bytes wait with no LF
+pub ends_too_long : (old now new : ReaderState) (before after : Told) (fault : ReadFault) → ReadsOn old now before after → IsTooLong now.limit now.waiting → fault ≡ LineTooLong (next_number now.number) → new ≡ record now { is_ended = true } → Answers old new (to_come old before) (to_come new after) (Err fault)
+ends_too_long old now new before after fault on long is ended =
+    let number = ap (λ (s : ReaderState). s.number) on.state in
+    let limit : now.limit ≡ old.limit = ap (λ (s : ReaderState). s.limit) on.state in
+    rw is (
+      gives_none old now new before after on (ap (λ (s : ReaderState). s.number) ended) (ap (λ (s : ReaderState). s.last) ended) (ap (λ (s : ReaderState). s.waiting) ended),
+      record { numbered = ap next_number number; ended = (on.open_yet, ap (λ (s : ReaderState). s.is_ended) ended) },
+      subst (λ known. IfSome known (IsTooLong old.limit)) on.come (subst (λ n. IfSome (to_come now after) (IsTooLong n)) limit (too_long_before now.limit now.waiting after.left long)),
+    )
+
+-- a line whose LF stands past the limit
+pub is_too_long_at : (limit place : ℕ) (waiting : List ℕ) → limit < place → IsFirstLf waiting place → IsTooLong limit waiting
+is_too_long_at limit place waiting past lf = record {
+  more = omega (arith, lf.within);
+  no_lf = subst HasNoLf (take-take (limit + 1) place waiting (omega arith)) (All-take (λ byte. byte ≢ LF) (limit + 1) (take place waiting) lf.no_lf);
+}
+
+-- more bytes than the limit wait, and none is an LF
+pub is_too_long : (limit : ℕ) (waiting : List ℕ) → limit < length waiting → HasNoLf waiting → IsTooLong limit waiting
+is_too_long limit waiting more no_lf = record { more = more; no_lf = All-take (λ byte. byte ≢ LF) (limit + 1) waiting no_lf }
+
+-- the answer at a cut
+pub answers_cut : (old now new : ReaderState) (before after : Told) (place : ℕ) (result : Result (Option Line) ReadFault) → ReadsOn old now before after → IsFirstLf now.waiting place → Cuts now new place result → Answers old new (to_come old before) (to_come new after) result
+answers_cut old now new before after place (Ok None) on lf cut = absurd cut
+answers_cut old now new before after place (Ok (Some line)) on lf cut = gives_line old now new before after place line on lf cut
+answers_cut old now new before after place (Err fault) on lf cut =
+    ends_too_long old now new before after fault on (is_too_long_at now.limit place now.waiting cut.0 lf) cut.1 cut.2
+
+at_end_before : (known : Option (List ℕ)) → IsAtEnd known → IsAtEnd (prepend_known [] known)
+at_end_before None h = tt
+at_end_before (Some xs) h = h
+
+cut_off_before : (limit : ℕ) (waiting : List ℕ) (known : Option (List ℕ)) → IsAtEnd known → IsCutOff limit waiting → IfSome (prepend_known waiting known) (IsCutOff limit)
+cut_off_before limit waiting None e h = tt
+cut_off_before limit waiting (Some xs) e h = subst (IsCutOff limit) (sym (append-nil waiting) ∙ ap (λ ys. waiting ++ ys) (sym e)) h
+
+-- the answer at the end of the input
+pub answers_end : (old now new : ReaderState) (before after : Told) (result : Result (Option Line) ReadFault) → ReadsOn old now before after → IsAtEnd after.left → HasNoLf now.waiting → length now.waiting ≤ now.limit → EndsInput now new result → Answers old new (to_come old before) (to_come new after) result
+answers_end old now new before after (Ok line) on end no_lf fits h =
+    let none = gives_none old now new before after on (ap (λ (s : ReaderState). s.number) h.2) (ap (λ (s : ReaderState). s.last) h.2) (ap (λ (s : ReaderState). s.waiting) h.2) in
+    rw h.0 (
+      none,
+      ap (λ (s : ReaderState). s.is_ended) h.2 ∙ ap (λ (s : ReaderState). s.is_ended) on.state,
+      λ yet. subst IsAtEnd on.come (subst (λ xs. IsAtEnd (prepend_known xs after.left)) (sym h.1) (at_end_before after.left end)),
+    )
+answers_end old now new before after (Err fault) on end no_lf fits h =
+    let number = ap (λ (s : ReaderState). s.number) on.state in
+    let limit : now.limit ≡ old.limit = ap (λ (s : ReaderState). s.limit) on.state in
+    let off : IsCutOff now.limit now.waiting = record { some = h.0; fits = fits; no_lf = no_lf } in
+    rw h.1 (
+      gives_none old now new before after on (ap (λ (s : ReaderState). s.number) h.2) (ap (λ (s : ReaderState). s.last) h.2) (ap (λ (s : ReaderState). s.waiting) h.2),
+      record { numbered = ap next_number number; ended = (on.open_yet, ap (λ (s : ReaderState). s.is_ended) h.2) },
+      subst (λ known. IfSome known (IsCutOff old.limit)) on.come (subst (λ n. IfSome (to_come now after) (IsCutOff n)) limit (cut_off_before now.limit now.waiting after.left end off)),
+    )
+
+-- the answer where the device failed
+pub answers_device : (old now new : ReaderState) (before mid after : Told) (e : Failed) → ReadsOn old now before mid → Refills now new mid after (Err e) → Answers old new (to_come old before) (to_come new after) (Err Device)
+answers_device old now new before mid after e on more =
+    let state : new ≡ with_waiting old new.waiting = more.state ∙ ap (λ (s : ReaderState). record s { waiting = new.waiting }) on.state in (
+      record {
+        number = ap (λ (s : ReaderState). s.number) state;
+        last = ap (λ (s : ReaderState). s.last) state;
+        kept = more.kept ∙ on.come;
+      },
+      on.open_yet,
+      ap (λ (s : ReaderState). s.is_ended) state ∙ on.open_yet,
+    )
+
+-- a cut reads nothing, and names no device
+pub counts_cut : (now new : ReaderState) (place : ℕ) (result : Result (Option Line) ReadFault) (old count : ℕ) → Cuts now new place result → count ≡ old → CountsReads result old count
+counts_cut now new place (Ok line) old count cut same = same
+counts_cut now new place (Err fault) old count cut same = rw cut.1 same
+
+-- the end of the input names no device
+pub counts_end : (now new : ReaderState) (result : Result (Option Line) ReadFault) (old count : ℕ) → EndsInput now new result → count ≡ old → CountsReads result old count
+counts_end now new (Ok line) old count end same = same
+counts_end now new (Err fault) old count end same = rw end.1 same
+
+-- a reader that is not over owes no answer for one that is
+pub not_over : {A : Type 0} (over : Bool) → over ≡ false → over ≡ true → A
+not_over over goes_on ended = let clash : true ≡ false = sym ended ∙ goes_on in cc

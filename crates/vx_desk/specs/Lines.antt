@@ -1,0 +1,93 @@
+-- What a reader of lines makes of the bytes that come to it.
+use Rattle.std.specs.Prelude.{◌≡◌, ◌≢◌, ℕ, ◌+◌, ◌-◌, ◌^◌, ◌<◌, ◌≤◌, min, Bool, true, false, List, [], ◌∷◌, ◌++◌, length, take, All, Option, Some, None, IfSome, Result, Ok, Err, slice_range}
+use Rattle.std.specs.Io.KnownBytes.{prepend_known, IsAtEnd}
+use Rattle.vx_desk.specs.declared.device.Slot.{Slot}
+use Rattle.vx_desk.specs.declared.lines.Line.{Line}
+use Rattle.vx_desk.specs.declared.lines.ReadFault.{ReadFault}
+use Rattle.vx_desk.specs.declared.lines.ReadFault.TheVariants.{Device, LineTooLong, NoEol}
+use Rattle.vx_desk.specs.declared.lines.TheConstants.{LF}
+use Rattle.vx_desk.specs.Told.{Told, Rose}
+
+-- what contracts see of a reader
+pub record ReaderState : Type 0 where
+  pub slot : Slot
+  -- the most bytes that a line may have
+  pub limit : ℕ
+  -- the bytes that were read and not yet given in a line
+  pub waiting : List ℕ
+  -- how many lines were given
+  pub number : ℕ
+  -- a line was too long or had no end, so that nothing more is given
+  pub is_ended : Bool
+  -- the line that the last call gave, and its bytes
+  pub last : Option Line
+  pub last_bytes : List ℕ
+
+-- the bytes that are to come to the reader's caller: those that wait, then those left in its slot
+abbrev pub to_come : ReaderState → Told → Option (List ℕ)
+to_come reader told = prepend_known reader.waiting told.left
+
+-- no byte is the end of a line
+abbrev pub HasNoLf : List ℕ → Type 0
+HasNoLf bytes = All (λ byte. byte ≢ LF) bytes
+
+-- a line without its LF: at most `limit` bytes
+pub record IsLine (limit : ℕ) (bytes : List ℕ) : Type 0 where
+  pub fits : length bytes ≤ limit
+  pub no_lf : HasNoLf bytes
+
+-- the bytes begin with `limit + 1` that have no LF
+pub record IsTooLong (limit : ℕ) (bytes : List ℕ) : Type 0 where
+  pub more : limit < length bytes
+  pub no_lf : HasNoLf (take (limit + 1) bytes)
+
+-- the bytes are one or more, at most `limit`, with no LF
+pub record IsCutOff (limit : ℕ) (bytes : List ℕ) : Type 0 where
+  pub some : 0 < length bytes
+  pub fits : length bytes ≤ limit
+  pub no_lf : HasNoLf bytes
+
+-- the number of the line after this one; it stops at the last value of 64 bits
+abbrev pub next_number : ℕ → ℕ
+next_number number = min (number + 1) (2 ^ 64 - 1)
+
+-- the next line is given: it was the first of the bytes to come, and an LF ended it
+pub record GivesLine (old new : ReaderState) (before after : Option (List ℕ)) (line : Line) : Type 0 where
+  pub numbered : line.number ≡ next_number old.number
+  pub number : new.number ≡ line.number
+  pub last : new.last ≡ Some line
+  pub size : line.end ≡ line.start + length new.last_bytes
+  pub is_line : IsLine old.limit new.last_bytes
+  pub taken : before ≡ prepend_known (new.last_bytes ++ LF ∷ []) after
+  pub open_yet : (old.is_ended ≡ false) × (new.is_ended ≡ false)
+
+-- no line is given, and no byte to come is lost
+pub record GivesNone (old new : ReaderState) (before after : Option (List ℕ)) : Type 0 where
+  pub number : new.number ≡ old.number
+  pub last : new.last ≡ None
+  pub kept : after ≡ before
+
+-- the bytes that wait are no line, whatever comes after them, and nothing more is given
+pub record EndsReading (old new : ReaderState) (number : ℕ) : Type 0 where
+  pub numbered : number ≡ next_number old.number
+  pub ended : (old.is_ended ≡ false) × (new.is_ended ≡ true)
+
+-- what `next` answers, by the bytes to come before and after it
+abbrev pub Answers : ReaderState → ReaderState → Option (List ℕ) → Option (List ℕ) → Result (Option Line) ReadFault → Type 0
+Answers old new before after (Ok (Some line)) = GivesLine old new before after line
+Answers old new before after (Ok None) = GivesNone old new before after × (new.is_ended ≡ old.is_ended) × (old.is_ended ≡ false → IsAtEnd before)
+Answers old new before after (Err Device) = GivesNone old new before after × (old.is_ended ≡ false) × (new.is_ended ≡ false)
+Answers old new before after (Err (LineTooLong number)) = GivesNone old new before after × EndsReading old new number × IfSome before (IsTooLong old.limit)
+Answers old new before after (Err (NoEol number)) = GivesNone old new before after × EndsReading old new number × IfSome before (IsCutOff old.limit)
+
+-- the count of failed reads rose where the device is named, and else is as it was
+abbrev pub CountsReads : Result (Option Line) ReadFault → ℕ → ℕ → Type 0
+CountsReads (Err Device) old new = Rose old new
+CountsReads (Ok _) old new = new ≡ old
+CountsReads (Err (LineTooLong _)) old new = new ≡ old
+CountsReads (Err (NoEol _)) old new = new ≡ old
+
+-- the bytes of the line that was given last
+abbrev pub bytes_given : Option Line → List ℕ → List ℕ
+bytes_given None buffer = []
+bytes_given (Some line) buffer = slice_range buffer line.start line.end

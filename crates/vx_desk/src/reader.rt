@@ -1,0 +1,234 @@
+ghost use Rattle.std.specs.Prelude.{◌≡◌, ◌+◌, ◌-◌, ◌<◌, ◌≤◌, length, slice_range, take, drop, slice_index, Some, None, true, false, [], ◌∷◌, ◌++◌, IsTrue, IfOk, MatchOption, OnOk, OnErr, ◌↔◌};
+ghost use Rattle.std.specs.Io.KnownBytes.{IsAtEnd};
+ghost use Rattle.vx_desk.specs.Slots.{IsReading};
+ghost use Rattle.vx_desk.specs.Told.{ChangesOnly, ChangesReads, Counts, Reads};
+ghost use Rattle.vx_desk.specs.Lines.{HasNoLf, Answers, CountsReads, to_come, next_number};
+ghost use Rattle.vx_desk.specs.Refill.{Refills, IsFirstLf, Cuts, EndsInput};
+ghost use Rattle.vx_desk.specs.declared.lines.TheConstants.{LF};
+
+use crate::device::{Desk, Failed, Slot};
+use crate::lines::{LF, Line, ReadFault};
+use memchr::memchr;
+use std::alloc::Global;
+use std::marker::Model;
+use vx_num::NoMemory;
+
+/// The most bytes that a line of any reader may have, without its LF.
+pub const LONGEST_LINE: usize = 1_048_576;
+
+/// The least room for one read, so that a read moves a block and not a line.
+const BLOCK: usize = 65_536;
+
+/// Cuts what is read from one slot into lines, however the reads are cut. Its buffer is taken once.
+#[derive(Debug, Drop)]
+pub struct LineReader {
+    buffer: Vec<u8>,
+    slot: Slot,
+    limit: usize,
+    start: usize,
+    end: usize,
+    number: u64,
+    is_ended: bool,
+    last: Option<Line>,
+}
+
+impl Model for LineReader {
+    ghost use Rattle.std.specs.Prelude.{◌≡◌, ◌+◌, ◌≤◌, vec_len, slice_range, Some, length};
+    ghost use Rattle.vx_desk.specs.Lines.{ReaderState, bytes_given};
+    ghost use Rattle.vx_desk.specs.Refill.{LiesWithin};
+
+    ghost Value = { ReaderState };
+
+    ghost view = { λ r. record {
+      slot = r.slot;
+      limit = r.limit;
+      waiting = slice_range r.buffer.items r.start r.end;
+      number = r.number;
+      is_ended = r.is_ended;
+      last = r.last;
+      last_bytes = bytes_given r.last r.buffer.items;
+    } };
+
+    ghost invariant = { λ r. (r.start ≤ r.end) × (r.end ≤ vec_len r.buffer) × (r.limit + 65536 ≤ vec_len r.buffer) × (r.limit ≤ 1048576) × LiesWithin (vec_len r.buffer) r.last };
+}
+
+impl LineReader {
+    /// A reader of one slot whose lines have at most `limit` bytes.
+    pub fn new(alloc: Global, slot: Slot, limit: usize) -> Result<LineReader, NoMemory>
+        requires { (1 ≤ limit) × (limit ≤ LONGEST_LINE) }
+        ensures { IfOk result (λ reader. reader ≡ record { slot = slot; limit = limit; waiting = []; number = 0; is_ended = false; last = None; last_bytes = [] }) }
+    {
+        let buffer = vec![in alloc; 0u8; limit + BLOCK].map_err(|_| NoMemory)?;
+        Ok(LineReader {
+            buffer,
+            slot,
+            limit,
+            start: 0,
+            end: 0,
+            number: 0,
+            is_ended: false,
+            last: None,
+        })
+    }
+
+    /// The next line of the slot, or `None` at the end of the input.
+    pub fn next<D: Desk>(&mut self, desk: &mut D) -> Result<Option<Line>, ReadFault>
+        requires reading { IsReading self.old.slot }
+        requires open { IsTrue (D.told desk.old self.old.slot).is_open }
+        ensures answers { Answers self.old self.new (to_come self.old (D.told desk.old self.old.slot)) (to_come self.new (D.told desk.new self.old.slot)) result }
+        ensures ended { self.old.is_ended ≡ true → result ≡ Ok None }
+        ensures counts { CountsReads result (D.told desk.old self.old.slot).failed_reads (D.told desk.new self.old.slot).failed_reads }
+        ensures rest { ChangesReads (D.told desk.old self.old.slot) (D.told desk.new self.old.slot) }
+        ensures others { ChangesOnly self.old.slot (D.told desk.old) (D.told desk.new) }
+        ensures names { D.holds desk.new ≡ D.holds desk.old }
+        ensures slot { self.new.slot ≡ self.old.slot }
+        ensures limit { self.new.limit ≡ self.old.limit }
+    {
+        self.forget();
+        if self.is_over() {
+            return Ok(None);
+        }
+        let mut searched = 0;
+        'fill: loop {
+            if let Some(length) = self.find_lf(searched) {
+                return self.cut(length);
+            }
+            searched = self.count_waiting();
+            if self.is_past_limit() {
+                return Err(self.end_too_long());
+            }
+            match self.refill(desk) {
+                Ok(0) => return self.end_input(),
+                Ok(_) => {}
+                Err(Failed) => return Err(ReadFault::Device),
+            }
+        }
+    }
+
+    /// The bytes of the line that the last call of `next` gave.
+    pub fn bytes(&self, line: &Line) -> &[u8]
+        requires { self.now.last ≡ Some line.now }
+        ensures { result.now ≡ self.now.last_bytes }
+    {
+        &self.buffer[line.start..line.end]
+    }
+
+    /// Forgets the last line, so that its bytes may be moved.
+    fn forget(&mut self)
+        ensures { self.new ≡ record self.old { last = None; last_bytes = [] } }
+    {
+        self.last = None;
+    }
+
+    fn is_over(&self) -> bool
+        ensures { result ≡ self.now.is_ended }
+    {
+        self.is_ended
+    }
+
+    fn count_waiting(&self) -> usize
+        ensures { result ≡ length self.now.waiting }
+    {
+        self.end - self.start
+    }
+
+    fn is_past_limit(&self) -> bool
+        ensures { IsTrue result ↔ (self.now.limit < length self.now.waiting) }
+    {
+        self.end - self.start > self.limit
+    }
+
+    /// Where the first LF of the waiting bytes is. The first `searched` of them have none.
+    fn find_lf(&self, searched: usize) -> Option<usize>
+        requires within { searched ≤ length self.now.waiting }
+        requires passed { HasNoLf (take searched self.now.waiting) }
+        ensures { MatchOption result (HasNoLf self.now.waiting) (IsFirstLf self.now.waiting) }
+    {
+        let from = self.start + searched;
+        let at = memchr(LF, &self.buffer[from..self.end])?;
+        Some(searched + at)
+    }
+
+    /// Gives the waiting bytes up to an LF at `length` as the next line, or finds them too many.
+    fn cut(&mut self, length: usize) -> Result<Option<Line>, ReadFault>
+        requires found { IsFirstLf self.old.waiting length }
+        ensures cuts { Cuts self.old self.new length result }
+    {
+        if length > self.limit {
+            return Err(self.end_too_long());
+        }
+        let line = Line {
+            start: self.start,
+            end: self.start + length,
+            number: self.number.saturating_add(1),
+        };
+        self.start = line.end + 1;
+        self.number = line.number;
+        self.last = Some(line);
+        Ok(Some(line))
+    }
+
+    fn end_too_long(&mut self) -> ReadFault
+        ensures fault { result ≡ ReadFault.LineTooLong (next_number self.old.number) }
+        ensures ended { self.new ≡ record self.old { is_ended = true } }
+    {
+        self.is_ended = true;
+        ReadFault::LineTooLong {
+            number: self.number.saturating_add(1),
+        }
+    }
+
+    /// Ends the input, which has nothing after the waiting bytes.
+    fn end_input(&mut self) -> Result<Option<Line>, ReadFault>
+        ensures { EndsInput self.old self.new result }
+    {
+        if self.start == self.end {
+            return Ok(None);
+        }
+        self.is_ended = true;
+        Err(ReadFault::NoEol {
+            number: self.number.saturating_add(1),
+        })
+    }
+
+    /// Moves the waiting bytes to the front and reads behind them.
+    fn refill<D: Desk>(&mut self, desk: &mut D) -> Result<usize, Failed>
+        requires reading { IsReading self.old.slot }
+        requires open { IsTrue (D.told desk.old self.old.slot).is_open }
+        requires forgotten { self.old.last ≡ None }
+        requires within { length self.old.waiting ≤ self.old.limit }
+        ensures refills { Refills self.old self.new (D.told desk.old self.old.slot) (D.told desk.new self.old.slot) result }
+        ensures counts { Counts result (D.told desk.old self.old.slot).failed_reads (D.told desk.new self.old.slot).failed_reads }
+        ensures rest { ChangesReads (D.told desk.old self.old.slot) (D.told desk.new self.old.slot) }
+        ensures others { ChangesOnly self.old.slot (D.told desk.old) (D.told desk.new) }
+        ensures names { D.holds desk.new ≡ D.holds desk.old }
+    {
+        let outcome = read_behind(desk, self.slot, &mut self.buffer, self.start, self.end);
+        self.end -= self.start;
+        self.start = 0;
+        let count = outcome?;
+        self.end += count;
+        Ok(count)
+    }
+}
+
+/// Moves the part of a buffer from `start` to `end` to the front and reads behind it.
+fn read_behind<D: Desk>(
+    desk: &mut D,
+    slot: Slot,
+    buffer: &mut [u8],
+    start: usize,
+    end: usize,
+) -> Result<usize, Failed>
+    requires reading { IsReading slot }
+    requires open { IsTrue (D.told desk.old slot).is_open }
+    requires ordered { start ≤ end }
+    requires within { end ≤ length buffer.old }
+    ensures moved { take (end - start) buffer.new ≡ slice_range buffer.old start end }
+    ensures reads { Reads (drop (end - start) buffer.new) (D.told desk.old slot) (D.told desk.new slot) result }
+    ensures others { ChangesOnly slot (D.told desk.old) (D.told desk.new) }
+    ensures names { D.holds desk.new ≡ D.holds desk.old }
+{
+    buffer.copy_within(start..end, 0);
+    desk.read(slot, &mut buffer[end - start..])
+}
