@@ -1,3 +1,4 @@
+pub mod Decimal
 pub mod Fraction
 pub mod Quotient
 pub mod SignedSquare

@@ -5,6 +5,7 @@
 //! by cross multiplication. The definitions stand in `specs/`.
 #![tactic(auto)]
 
+mod decimal;
 mod fault;
 pub mod limits;
 mod quotient;

@@ -1,0 +1,145 @@
+//! Reading numbers from their texts, in one pass and without memory.
+
+ghost use Rattle.std.specs.Prelude.{◌≡◌, ◌+◌, ◌*◌, ◌^◌, ◌<◌, ◌≤◌, IfOk, IfSome, filter, if◌then◌else◌, is_some, min, nat_le, take};
+ghost use Rattle.std.specs.List.{prefix_len};
+ghost use Rattle.vx_num.specs.Decimal.{decimal_of, digits_worth, is_decimal, is_decimal_rest, is_digit, places_of};
+
+use crate::fault::DecimalFault;
+
+/// Values from here on are only known to be at least this. It is above every limit that a text is
+/// read with.
+const LARGE: u128 = 1 << 127;
+
+/// Below this one more digit fits.
+const ROOM: u128 = 1 << 124;
+
+/// The digits at the front of a text.
+#[derive(Drop)]
+struct DigitRun {
+    /// What they are worth behind the digits before, or at least `LARGE` where that is.
+    value: u128,
+    len: usize,
+}
+
+fn with_digit(value: u128, digit: u8) -> u128
+    requires { digit < 10 }
+    ensures { min result LARGE ≡ min (value * 10 + digit) LARGE }
+{
+    if value < ROOM {
+        value * 10 + digit as u128
+    } else {
+        LARGE
+    }
+}
+
+/// Reads the digits at the front of the text, which stand behind digits worth `start`.
+fn digit_run(text: &[u8], start: u128) -> DigitRun
+    ensures len { result.len ≡ prefix_len is_digit text.now }
+    ensures value { min result.value LARGE ≡ min (start * 10 ^ result.len + digits_worth (take result.len text.now)) LARGE }
+{
+    let mut value = start;
+    for (len, &byte) in text.iter().enumerate() {
+        match byte {
+            b'0'..=b'9' => value = with_digit(value, byte - b'0'),
+            _ => return DigitRun { value, len },
+        }
+    }
+    DigitRun {
+        value,
+        len: text.len(),
+    }
+}
+
+/// A decimal without its dot.
+#[derive(Drop)]
+struct Numeral {
+    /// What its digits are worth, or at least `LARGE` where that is.
+    digits: u128,
+    /// How many of them stand behind the dot.
+    places: usize,
+}
+
+/// What stands behind the digits at the front, which are worth `whole`: nothing, or a dot with
+/// digits behind it.
+fn with_places(whole: u128, rest: &[u8]) -> Option<Numeral>
+    requires { prefix_len is_digit rest.now ≡ 0 }
+    ensures form { is_some result ≡ is_decimal_rest rest.now }
+    ensures places { IfSome result (λ numeral. numeral.places ≡ places_of rest.now) }
+    ensures digits { IfSome result (λ numeral. min numeral.digits LARGE ≡ min (whole * 10 ^ numeral.places + digits_worth (filter is_digit rest.now)) LARGE) }
+{
+    match rest {
+        [] => Some(Numeral {
+            digits: whole,
+            places: 0,
+        }),
+        [b'.', behind @ ..] => {
+            let run = digit_run(behind, whole);
+            if run.len == 0 || run.len < behind.len() {
+                return None;
+            }
+            Some(Numeral {
+                digits: run.value,
+                places: run.len,
+            })
+        }
+        _ => None,
+    }
+}
+
+/// Takes a decimal apart: digits, and then at most once a dot with digits behind it.
+fn without_dot(text: &[u8]) -> Option<Numeral>
+    ensures form { is_some result ≡ is_decimal text.now }
+    ensures places { IfSome result (λ numeral. numeral.places ≡ places_of text.now) }
+    ensures digits { IfSome result (λ numeral. min numeral.digits LARGE ≡ min (digits_worth (filter is_digit text.now)) LARGE) }
+{
+    let whole = digit_run(text, 0);
+    if whole.len == 0 {
+        return None;
+    }
+    with_places(whole.value, &text[whole.len..])
+}
+
+/// The digits with zeros behind them, where that is at most `max`.
+fn scaled(digits: u128, zeros: u32, max: u64) -> Option<u64>
+    requires { zeros ≤ 8 }
+    ensures { let value = digits * 10 ^ zeros in result ≡ (if nat_le value max then Some value else None) }
+{
+    let limit = max as u128;
+    if digits > limit {
+        return None;
+    }
+    let value = digits * 10u128.pow(zeros);
+    if value > limit {
+        None
+    } else {
+        Some(value as u64)
+    }
+}
+
+/// Reads a decimal, as its value times `10^places`.
+///
+/// A decimal is one digit or more, and then at most once a dot followed by one to `places` digits.
+/// Leading zeros are allowed. The answer is at most `max`.
+///
+/// # Errors
+///
+/// The first that holds of: `Empty`, there is no byte; `NotDigit`, a byte is no digit, other than a
+/// single dot with a digit on each side; `Places`, more than `places` digits stand behind the dot;
+/// `TooLarge`, the answer would be above `max`.
+pub fn read_decimal(text: &[u8], places: u32, max: u64) -> Result<u64, DecimalFault>
+    requires { places ≤ 8 }
+    ensures answer { result ≡ decimal_of text.now places max }
+    ensures within { IfOk result (λ value. value ≤ max) }
+{
+    if text.is_empty() {
+        return Err(DecimalFault::Empty);
+    }
+    let Some(numeral) = without_dot(text) else {
+        return Err(DecimalFault::NotDigit);
+    };
+    if numeral.places > places as usize {
+        return Err(DecimalFault::Places);
+    }
+    let left_out = places - numeral.places as u32;
+    scaled(numeral.digits, left_out, max).ok_or(DecimalFault::TooLarge)
+}
