@@ -8,7 +8,7 @@ use Rattle.vx_formula.specs.Term.{Term, InBracket, exponent, HasSmallExponent}
 use Rattle.vx_formula.specs.Forward.{forward_at}
 use Rattle.vx_formula.specs.Level.{IsGreatestBelow, IsLevel}
 use Rattle.vx_formula.specs.Refusal.{IsBelowAll}
-use Rattle.vx_formula.proofs.Fractions.{le_trans_f, le_not_lt_f}
+use Rattle.vx_num.proofs.Fractions.{≤ᶠ_trans, clash_ᶠ}
 
 pub exponent_proper : (rate : ℤ) (minutes : ℕ) → IsProper (exponent rate minutes)
 exponent_proper rate minutes = lit≤ tt
@@ -20,7 +20,7 @@ brackets_of_term_meet term n m small = brackets_meet n m (exponent term.rate ter
 pub level_rises : (rows : List StrikeRow) (f g : Fraction) (k m : ℕ) → IsProper f → f ≤ᶠ g → IsGreatestBelow rows f k → IsGreatestBelow rows g m → k ≤ m
 level_rises rows f g k m p below h l =
     elim (cases_lt m k) [
-      | inl above ↦ absurd (le_not_lt_f (whole (pos k)) g (le_trans_f (whole (pos k)) f g p h.at_most below) (l.others_above k h.is_listed above))
+      | inl above ↦ absurd (clash_ᶠ g (whole (pos k)) (l.others_above k h.is_listed above) (≤ᶠ_trans (whole (pos k)) f g p h.at_most below))
       | inr fine ↦ fine
     ]
 
@@ -29,8 +29,8 @@ greatest_below_is_one rows f k m h l =
     elim (cases_order k m) [
       | inl e ↦ e
       | inr d ↦ elim d [
-        | inl less ↦ absurd (le_not_lt_f (whole (pos m)) f l.at_most (h.others_above m l.is_listed less))
-        | inr more ↦ absurd (le_not_lt_f (whole (pos k)) f h.at_most (l.others_above k h.is_listed more))
+        | inl less ↦ absurd (clash_ᶠ f (whole (pos m)) (h.others_above m l.is_listed less) l.at_most)
+        | inr more ↦ absurd (clash_ᶠ f (whole (pos k)) (l.others_above k h.is_listed more) h.at_most)
       ]
     ]
 
@@ -43,4 +43,4 @@ pub level_is_not_below_all : (term : Term) (k : ℕ) → HasSmallExponent term �
 level_is_not_below_all term k small h none =
     let common = brackets_of_term_meet term h.depth none.depth small in
     let at : IsGreatestBelow term.rows (forward_at term.pair common.0) k = h.holds common.0 common.1 in
-    le_not_lt_f (whole (pos k)) (forward_at term.pair common.0) at.at_most (none.holds common.0 common.2 k at.is_listed)
+    clash_ᶠ (forward_at term.pair common.0) (whole (pos k)) (none.holds common.0 common.2 k at.is_listed) at.at_most

@@ -1,14 +1,11 @@
 -- Two ends around the exact value. This project's own.
-use Rattle.std.specs.Prelude.{ℕ, ◌^◌, ℤ, pos, ◌*ℤ◌, nat_abs}
+use Rattle.std.specs.Prelude.{ℕ, ◌^◌, ℤ, pos}
 use Rattle.vx_num.specs.Fraction.{Fraction, whole, ◌*ᶠ◌, ◌≤ᶠ◌}
+use Rattle.vx_num.specs.SignedSquare.{signed_square}
 use Rattle.vx_formula.specs.declared.limits.TheConstants.{FORWARD_UNITS}
 use Rattle.vx_formula.specs.Term.{Term, InBracket}
 use Rattle.vx_formula.specs.Forward.{forward_at}
 use Rattle.vx_formula.specs.Index.{Basis, SquareMeets}
-
--- z times its absolute value, so that it rises with z on both sides of 0
-abbrev pub signed_square : ℤ → ℤ
-signed_square z = z *ℤ pos (nat_abs z)
 
 -- the index whose square is x lies from lo to hi, in millionths of a point; below zero it is read as minus the root of -x
 pub record BetweenAt (lo hi : ℤ) (x : Fraction) : Type 0 where

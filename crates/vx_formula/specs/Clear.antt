@@ -1,11 +1,12 @@
 -- Far enough from every boundary for an answer to be promised. This project's own.
 use Rattle.std.specs.Prelude.{◌≡◌, ℕ, ◌⊎◌, ◌^◌, ℤ, pos, ◌+ℤ◌, ◌-ℤ◌, ◌*ℤ◌}
 use Rattle.vx_num.specs.Fraction.{Fraction, whole, ◌*ᶠ◌, ◌<ᶠ◌}
+use Rattle.vx_num.specs.SignedSquare.{signed_square}
 use Rattle.vx_formula.specs.declared.limits.TheConstants.{INDEX_WIDTH_MAX, FORWARD_UNITS, FORWARD_WIDTH_MAX}
 use Rattle.vx_formula.specs.Term.{Term, InBracket, exponent}
 use Rattle.vx_formula.specs.Level.{IsListed}
 use Rattle.vx_formula.specs.Index.{Basis, SquareMeets}
-use Rattle.vx_formula.specs.Between.{signed_square, forward_units}
+use Rattle.vx_formula.specs.Between.{forward_units}
 use Rattle.vx_formula.specs.Undecided.{IsBoundary}
 
 -- the forward is more than the greatest width of its ends away from the strike

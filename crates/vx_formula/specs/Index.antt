@@ -1,6 +1,6 @@
 -- The square of the index over 100, so that the index is 100 times its root, in points. After the Cboe VIX white paper.
 use Rattle.std.specs.Prelude.{ℕ, ◌*◌, ◌-◌, pos, ◌-ℤ◌}
-use Rattle.vx_num.specs.Fraction.{Fraction, whole, ◌+ᶠ◌, ◌*ᶠ◌, ◌/ᶠ◌}
+use Rattle.vx_num.specs.Fraction.{Fraction, whole, ◌+ᶠ◌, ◌*ᶠ◌, ◌/ᶠ◌, ◌<ᶠ◌}
 use Rattle.vx_formula.specs.declared.limits.TheConstants.{YEAR_MINUTES, THIRTY_DAYS}
 use Rattle.vx_formula.specs.Term.{Term, InBracket, HasSmallExponent}
 use Rattle.vx_formula.specs.Level.{IsLevelAt}
@@ -50,3 +50,7 @@ pub record OneTermMeets (term : Term) (Test : Fraction → Type 0) : Type 0 wher
 abbrev pub SquareMeets : Basis → (Fraction → Type 0) → Type 0
 SquareMeets (TwoTerms near next target) Test = TwoTermsMeet near next target Test
 SquareMeets (OneTerm term) Test = OneTermMeets term Test
+
+-- below zero, where there is no root
+abbrev pub IsNegative : Fraction → Type 0
+IsNegative x = x <ᶠ whole (pos 0)

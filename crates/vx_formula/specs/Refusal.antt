@@ -11,7 +11,7 @@ use Rattle.vx_formula.specs.Forward.{forward_at}
 use Rattle.vx_formula.specs.Level.{IsListed, IsLevel}
 use Rattle.vx_formula.specs.Selection.{selected_rows}
 use Rattle.vx_formula.specs.Strip.{strip, upper_total}
-use Rattle.vx_formula.specs.Index.{TwoTerms, OneTerm, SquareMeets}
+use Rattle.vx_formula.specs.Index.{TwoTerms, OneTerm, SquareMeets, IsNegative}
 
 -- r holds, and none at an earlier place does
 pub record IsFirst {R : Type 0} (Holds : R → Type 0) (place : R → ℕ) (r : R) : Type 0 where
@@ -125,7 +125,7 @@ pub record TickIsNegative (facts : TickFacts) : Type 0 where
   pub near : Term
   pub next : Term
   pub is_basis : IsTickBasis facts near next
-  pub negative : SquareMeets (TwoTerms near next facts.target) (λ x. x <ᶠ whole (pos 0))
+  pub negative : SquareMeets (TwoTerms near next facts.target) IsNegative
 
 abbrev pub TickRefuses : ℕ → TickFacts → TickReason → Type 0
 TickRefuses P facts no_near_term = facts.near ≡ None
@@ -175,7 +175,7 @@ pub record IsOpeningBasis (facts : OpeningFacts) (term : Term) : Type 0 where
 pub record OpeningIsNegative (facts : OpeningFacts) : Type 0 where
   pub term : Term
   pub is_basis : IsOpeningBasis facts term
-  pub negative : SquareMeets (OneTerm term) (λ x. x <ᶠ whole (pos 0))
+  pub negative : SquareMeets (OneTerm term) IsNegative
 
 abbrev pub OpeningRefuses : ℕ → OpeningFacts → OpeningReason → Type 0
 OpeningRefuses P facts no_opening = facts.is_taken ≡ false

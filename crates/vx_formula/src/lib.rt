@@ -8,6 +8,9 @@ mod laws;
 pub mod limits;
 
 pub use laws::{
-    closest_pair_is_one, closest_pair_is_there, figure_is_one, level_is_not_below_all,
-    level_is_one, level_rises,
+    clear_index_is_decided, closest_pair_is_one, closest_pair_is_there, exponent_is_small,
+    far_forward_is_decided, figure_is_not_negative, figure_is_one, figure_lies_in_ends,
+    first_opening_refusal_is_one, first_refusal_is_one, first_term_refusal_is_one,
+    level_is_not_below_all, level_is_one, level_is_selected, level_rises, rounding_is_half_open,
+    selected_rows_are_listed, selected_rows_rise, selection_goes_by_rows, upper_end_is_ceiling,
 };

@@ -1,0 +1,5 @@
+use Rattle.vx_formula.proofs.RefusalLemmas.{first_refusal_is_one as proof}
+use Rattle.vx_formula.proofs.laws.first_refusal_is_one.Goals as goal
+
+pub returns : goal.returns
+returns c = proof
