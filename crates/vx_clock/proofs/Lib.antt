@@ -1,2 +1,4 @@
+pub mod TermOrder
+pub mod Best
 pub mod DigitFacts
 pub mod DayNumbers

@@ -4,7 +4,9 @@
 pub mod days;
 pub mod digits;
 pub mod limits;
+pub mod picking;
 pub mod terms;
 
 pub use days::{DayFault, DayNo, day_of, read_day};
+pub use picking::pick_terms;
 pub use terms::{Expiry, Moment, NoTerm, Root, minutes_to};

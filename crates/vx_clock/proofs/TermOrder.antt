@@ -1,0 +1,22 @@
+-- The orders in which terms are taken are reflexive and transitive.
+use Rattle.std.proofs.Common.{pos, arith}
+use Rattle.vx_clock.specs.declared.terms.Root.TheVariants.{Spx}
+use Rattle.vx_clock.specs.declared.terms.Expiry.{Expiry}
+use Rattle.vx_clock.specs.Terms.{IsTakenBeforeAsNear, IsTakenBeforeAsNext}
+use Rattle.jiff_core.proofs.SignedLemmas.{signed_arith}
+
+-- what a look-up past the end gives
+abbrev pub some_expiry : Expiry
+some_expiry = record { root = Spx; date = record { 0 = pos 0 } }
+
+pub near-reflexive : (e : Expiry) → IsTakenBeforeAsNear e e
+near-reflexive e = grind (arith, signed_arith)
+
+pub near-transitive : (a b c : Expiry) → IsTakenBeforeAsNear a b → IsTakenBeforeAsNear b c → IsTakenBeforeAsNear a c
+near-transitive a b c h k = grind (arith, signed_arith)
+
+pub next-reflexive : (e : Expiry) → IsTakenBeforeAsNext e e
+next-reflexive e = grind (arith, signed_arith)
+
+pub next-transitive : (a b c : Expiry) → IsTakenBeforeAsNext a b → IsTakenBeforeAsNext b c → IsTakenBeforeAsNext a c
+next-transitive a b c h k = grind (arith, signed_arith)
