@@ -6,3 +6,4 @@ pub mod FigureLemmas
 pub mod SelectionLemmas
 pub mod RefusalLemmas
 pub mod RangeLemmas
+pub mod ExampleProofs

@@ -19,3 +19,5 @@ pub mod Undecided
 pub mod Clear
 -- what holds of them
 pub mod Laws
+-- and worked examples
+pub mod Examples

@@ -1,9 +1,11 @@
 //! The formula of the index: definitions over rows and fractions, and their laws.
 //!
 //! The definitions stand in `specs/`, in the order in which a figure is computed; no number of the
-//! product means anything but what they say. Each function here is a law about them.
+//! product means anything but what they say. Each function here is a law about them,
+//! and each function of `examples` a worked example.
 #![tactic(auto)]
 
+pub mod examples;
 mod laws;
 pub mod limits;
 
