@@ -1,17 +1,18 @@
 -- How a decimal falls into the digits at its front, a dot, and the digits behind it.
-use Rattle.std.proofs.Common.{◌≡◌, refl, sym, ap, ◌∙◌, subst, ℕ, suc, ◌+◌, ◌-◌, ◌*◌, ◌^◌, ◌<◌, ◌≤◌, Bool, true, false, List, [], ◌∷◌, ◌++◌, length, take, drop, get_or, min, ◌⊎◌, inl, inr, arith}
+use Rattle.std.proofs.Common.{◌≡◌, ◌≢◌, refl, sym, ap, ◌∙◌, subst, ℕ, suc, ◌+◌, ◌-◌, ◌*◌, ◌^◌, ◌%◌, ◌<◌, ◌≤◌, Bool, true, false, List, [], ◌∷◌, ◌++◌, length, take, drop, get_or, min, ◌⊎◌, inl, inr, arith}
 use Rattle.std.specs.Prelude.{nat_lt, nat_le, if◌then◌else◌, filter, Ok, Err}
 use Rattle.std.specs.List.{list_all, prefix_len}
 use Rattle.std.specs.Prelude.{Some, None, Result}
 use Rattle.vx_num.specs.declared.fault.DecimalFault.{DecimalFault}
 use Rattle.std.specs.Option.{ok_or}
-use Rattle.std.proofs.Math.Nat.{one-le-pow, mul-le-mul_left}
+use Rattle.std.proofs.Math.Nat.{one-le-pow, mul-le-mul_left, pow-le-pow_right}
+use Rattle.std.proofs.lemmas.Nat.{one_shl}
 use Rattle.std.proofs.lemmas.List.{take_all, take_rest}
 use Rattle.std.proofs.lemmas.List.Sums.{prefix_len-le-length, prefix_len-drop_no, prefix_len-drop_all, prefix_len_stops}
 use mathlib.Core.Logic.{⊎_elim}
 use Rattle.std.proofs.lemmas.Bool.{cases_lt}
 use Rattle.std.proofs.lemmas.Bool.Decides.{nat_tests}
-use Rattle.vx_num.specs.Decimal.{is_digit, is_dot, is_digits, is_decimal, is_decimal_rest, places_of, digits_worth, scaled_value, decimal_of}
+use Rattle.vx_num.specs.Decimal.{is_digit, is_dot, is_digits, is_decimal, is_decimal_rest, places_of, digits_worth, scaled_value, decimal_of, is_minus, magnitude_of, with_sign, wide_of}
 use Rattle.vx_num.proofs.Texts.{digits_worth-append}
 use Rattle.vx_num.specs.declared.fault.DecimalFault.TheVariants.{Empty, NotDigit, Places, TooLarge}
 
@@ -258,3 +259,67 @@ decimal_of_scaled xs places max digits p large form e fits cap h =
     scaled_answer digits worth (10 ^ (places - p)) max large (decimal_of xs places max) (one-le-pow (places - p) 10 (omega arith)) cap h
     (λ l. decimal_of_value xs places max form (omega arith) (omega arith) ∙ ap Ok (sym value))
     (λ l. decimal_of_large xs places max form (omega arith) (omega arith))
+
+-- ---- whole numbers
+
+pub power_below : (bits : ℕ) → bits ≤ 126 → (1 * 2 ^ bits) % 2 ^ 128 ≡ 2 ^ bits
+power_below bits h = one_shl bits 128 (omega arith)
+
+pub power_at_most : (bits : ℕ) → bits ≤ 126 → 2 ^ bits ≤ 2 ^ 126
+power_at_most bits h = pow-le-pow_right (omega arith) h
+
+large_test : (p v w large : ℕ) → p ≤ large → min v large ≡ min w large → p ≤ v → nat_le p w ≡ true
+large_test p v w large cap h l = let high : p ≤ w = omega arith in grind (arith, nat_tests)
+
+small_same : (p v w large : ℕ) → p ≤ large → min v large ≡ min w large → v < p → w ≡ v
+small_same p v w large cap h l = omega arith
+
+small_test : (p v w large : ℕ) → p ≤ large → min v large ≡ min w large → v < p → nat_le p w ≡ false
+small_test p v w large cap h l = let low : w < p = omega arith in grind (arith, nat_tests)
+
+pub magnitude_of_empty : (xs : List ℕ) (bits : ℕ) → length xs ≡ 0 → magnitude_of xs bits ≡ Err Empty
+magnitude_of_empty [] bits h = refl
+magnitude_of_empty (x ∷ xs) bits h = absurd (omega arith)
+
+pub magnitude_of_other : (xs : List ℕ) (bits n : ℕ) → n ≡ prefix_len is_digit xs → n < length xs → magnitude_of xs bits ≡ Err NotDigit
+magnitude_of_other [] bits n e h = absurd (omega arith)
+magnitude_of_other (x ∷ xs) bits n e h = let no = not_digits_from_run (x ∷ xs) (omega arith) in rw no
+
+run_is_all : (xs : List ℕ) (n : ℕ) → n ≡ prefix_len is_digit xs → length xs ≤ n → (prefix_len is_digit xs ≡ length xs) × (take n xs ≡ xs)
+run_is_all xs n e h = let fits : prefix_len is_digit xs ≤ length xs = prefix_len-le-length is_digit xs in (omega arith, take_all n xs h)
+
+pub magnitude_of_large : (xs : List ℕ) (bits n p v large : ℕ) → 0 < length xs → n ≡ prefix_len is_digit xs → length xs ≤ n → 2 ^ bits ≤ large → min v large ≡ min (0 * p + digits_worth (take n xs)) large → 2 ^ bits ≤ v → magnitude_of xs bits ≡ Err TooLarge
+magnitude_of_large [] bits n p v large some e all cap h l = absurd (omega arith)
+magnitude_of_large (x ∷ xs) bits n p v large some e all cap h l =
+    let run = run_is_all (x ∷ xs) n e all in
+    let yes = digits_from_run (x ∷ xs) some run.0 in
+    let worth : min v large ≡ min (digits_worth (x ∷ xs)) large = (rw run.1 at h) ∙ omega arith in
+    let test : nat_le (2 ^ bits) (digits_worth (x ∷ xs)) ≡ true = large_test (2 ^ bits) v (digits_worth (x ∷ xs)) large cap worth l in
+    rw (yes, test)
+
+pub magnitude_of_value : (xs : List ℕ) (bits n p v large : ℕ) → 0 < length xs → n ≡ prefix_len is_digit xs → length xs ≤ n → 2 ^ bits ≤ large → min v large ≡ min (0 * p + digits_worth (take n xs)) large → v < 2 ^ bits → magnitude_of xs bits ≡ Ok v
+magnitude_of_value [] bits n p v large some e all cap h l = absurd (omega arith)
+magnitude_of_value (x ∷ xs) bits n p v large some e all cap h l =
+    let run = run_is_all (x ∷ xs) n e all in
+    let yes = digits_from_run (x ∷ xs) some run.0 in
+    let worth : min v large ≡ min (digits_worth (x ∷ xs)) large = (rw run.1 at h) ∙ omega arith in
+    let same : digits_worth (x ∷ xs) ≡ v = small_same (2 ^ bits) v (digits_worth (x ∷ xs)) large cap worth l in
+    let test : nat_le (2 ^ bits) (digits_worth (x ∷ xs)) ≡ false = small_test (2 ^ bits) v (digits_worth (x ∷ xs)) large cap worth l in
+    rw (yes, test) (ap Ok same)
+
+-- ---- signs
+
+pub wide_of_minus : (xs : List ℕ) (bits : ℕ) → 1 ≤ length xs → get_or xs 0 0 ≡ 45 → wide_of xs bits ≡ with_sign true (magnitude_of (behind_first xs) bits)
+unfolding wide_of
+wide_of_minus [] bits n e = absurd (omega arith)
+wide_of_minus (x ∷ xs) bits n e = let minus : is_minus x ≡ true = grind (arith, nat_tests) in rw (minus, behind_is x xs)
+
+pub wide_of_plain : (xs : List ℕ) (bits : ℕ) → get_or xs 0 0 ≢ 45 → wide_of xs bits ≡ with_sign false (magnitude_of xs bits)
+unfolding wide_of
+wide_of_plain [] bits h = refl
+wide_of_plain (x ∷ xs) bits h = let plain : is_minus x ≡ false = grind (arith, nat_tests) in rw plain
+
+pub wide_of_empty : (xs : List ℕ) (bits : ℕ) → length xs < 1 → wide_of xs bits ≡ Err Empty
+unfolding wide_of
+wide_of_empty [] bits h = refl
+wide_of_empty (x ∷ xs) bits h = absurd (omega arith)

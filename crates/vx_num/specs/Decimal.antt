@@ -52,22 +52,21 @@ decimal_of (b ∷ bs) places max =
     else if nat_lt max (scaled_value (b ∷ bs) places) then Err TooLarge
     else Ok (scaled_value (b ∷ bs) places)
 
--- the text of a wide number without the minus sign that may stand at its front, and the value with the sign
-abbrev pub unsigned_text : List ℕ → List ℕ
-unsigned_text [] = []
-unsigned_text (b ∷ bs) = if is_minus b then bs else b ∷ bs
-
-abbrev pub signed_value : List ℕ → ℤ
-signed_value [] = pos 0
-signed_value (b ∷ bs) = if is_minus b then neg_ℤ (pos (digits_worth bs)) else pos (digits_worth (b ∷ bs))
-
--- what reading a wide number answers: the first fault whose cause holds, or the value
-abbrev pub wide_from_digits : List ℕ → ℤ → ℕ → Result ℤ DecimalFault
-wide_from_digits [] value bits = Err Empty
-wide_from_digits (b ∷ bs) value bits =
+-- what reading a whole number without a sign answers: the first fault whose cause holds, or the value, which is below 2 ^ bits
+abbrev pub magnitude_of : List ℕ → ℕ → Result ℕ DecimalFault
+magnitude_of [] bits = Err Empty
+magnitude_of (b ∷ bs) bits =
     if not (is_digits (b ∷ bs)) then Err NotDigit
     else if nat_le (2 ^ bits) (digits_worth (b ∷ bs)) then Err TooLarge
-    else Ok value
+    else Ok (digits_worth (b ∷ bs))
 
+-- the same with a sign in front
+abbrev pub with_sign : Bool → Result ℕ DecimalFault → Result ℤ DecimalFault
+with_sign false (Ok n) = Ok (pos n)
+with_sign true (Ok n) = Ok (neg_ℤ (pos n))
+with_sign s (Err fault) = Err fault
+
+-- what reading a wide number answers: one minus sign may stand at the front, and '-0' is 0
 unfoldable pub wide_of : List ℕ → ℕ → Result ℤ DecimalFault
-wide_of text bits = wide_from_digits (unsigned_text text) (signed_value text) bits
+wide_of [] bits = Err Empty
+wide_of (b ∷ bs) bits = with_sign (is_minus b) (magnitude_of (if is_minus b then bs else b ∷ bs) bits)

@@ -1,8 +1,8 @@
 //! Reading numbers from their texts, in one pass and without memory.
 
-ghost use Rattle.std.specs.Prelude.{◌≡◌, ◌+◌, ◌*◌, ◌^◌, ◌<◌, ◌≤◌, IfOk, IfSome, filter, if◌then◌else◌, is_some, min, nat_le, take};
+ghost use Rattle.std.specs.Prelude.{◌≡◌, ◌+◌, ◌*◌, ◌^◌, ◌<◌, ◌≤◌, IfOk, IfSome, filter, if◌then◌else◌, is_some, min, nat_abs, nat_le, take};
 ghost use Rattle.std.specs.List.{prefix_len};
-ghost use Rattle.vx_num.specs.Decimal.{decimal_of, digits_worth, is_decimal, is_decimal_rest, is_digit, places_of};
+ghost use Rattle.vx_num.specs.Decimal.{decimal_of, digits_worth, is_decimal, is_decimal_rest, is_digit, magnitude_of, places_of, wide_of};
 
 use crate::fault::DecimalFault;
 
@@ -142,4 +142,51 @@ pub fn read_decimal(text: &[u8], places: u32, max: u64) -> Result<u64, DecimalFa
     }
     let left_out = places - numeral.places as u32;
     scaled(numeral.digits, left_out, max).ok_or(DecimalFault::TooLarge)
+}
+
+/// Reads digits as a whole number below `2^bits`.
+fn magnitude(digits: &[u8], bits: u32) -> Result<u128, DecimalFault>
+    requires { bits ≤ 126 }
+    ensures answer { result ≡ magnitude_of digits.now bits }
+    ensures within { IfOk result (λ value. value < 2 ^ bits) }
+{
+    if digits.is_empty() {
+        return Err(DecimalFault::Empty);
+    }
+    let run = digit_run(digits, 0);
+    if run.len < digits.len() {
+        return Err(DecimalFault::NotDigit);
+    }
+    if run.value >= 1 << bits {
+        return Err(DecimalFault::TooLarge);
+    }
+    Ok(run.value)
+}
+
+/// Reads a whole number that may have a minus sign, of an absolute value below `2^bits`.
+///
+/// Leading zeros and `-0` are lawful.
+///
+/// # Errors
+///
+/// The first that holds of: `Empty`, there is no byte, or only the minus sign; `NotDigit`, any other
+/// byte is no digit, a dot among them; `TooLarge`, the absolute value is `2^bits` or more. `Places`
+/// never comes.
+pub fn read_wide(text: &[u8], bits: u32) -> Result<i128, DecimalFault>
+    requires least { 1 ≤ bits }
+    requires most { bits ≤ 126 }
+    ensures answer { result ≡ wide_of text.now bits }
+    ensures within { IfOk result (λ value. nat_abs value < 2 ^ bits) }
+{
+    match text {
+        [] => Err(DecimalFault::Empty),
+        [b'-', digits @ ..] => match magnitude(digits, bits) {
+            Ok(value) => Ok(-(value as i128)),
+            Err(fault) => Err(fault),
+        },
+        _ => match magnitude(text, bits) {
+            Ok(value) => Ok(value as i128),
+            Err(fault) => Err(fault),
+        },
+    }
 }

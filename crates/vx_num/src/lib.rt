@@ -9,6 +9,7 @@ mod decimal;
 mod fault;
 pub mod limits;
 mod quotient;
+mod steps;
 
 pub use fault::{DecimalFault, NoMemory};
 pub use quotient::{div_ceil, div_floor};
