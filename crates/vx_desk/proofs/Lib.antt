@@ -1,3 +1,4 @@
 pub mod SendingLemmas
 pub mod ReaderLemmas
 pub mod NextLemmas
+pub mod UntoldLemmas

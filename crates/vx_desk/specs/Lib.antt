@@ -3,3 +3,5 @@ pub mod Told
 pub mod Sending
 pub mod Lines
 pub mod Refill
+pub mod Failures
+pub mod Untold

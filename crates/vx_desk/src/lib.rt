@@ -4,11 +4,14 @@
 #![tactic(auto)]
 
 mod device;
+mod failures;
 mod lines;
 mod reader;
+mod real;
 mod sending;
 
 pub use device::{Desk, Failed, Slot};
 pub use lines::{LF, Line, ReadFault};
 pub use reader::{LONGEST_LINE, LineReader};
+pub use real::RealDesk;
 pub use sending::{SendFault, send};
