@@ -8,3 +8,5 @@ pub mod Accepts
 -- what they show, and what the product answers
 pub mod Means
 pub mod Answers
+-- what holds of them
+pub mod Laws

@@ -1,7 +1,14 @@
 //! What the product claims of its answers: when a certificate is accepted, what that means, and
 //! which answers of a tick and of an opening are lawful.
 //!
-//! The definitions stand in `specs/`, over lists of events and certificates.
+//! The definitions stand in `specs/`, over lists of events and certificates. Each function here is a
+//! law about them.
 #![tactic(auto)]
 
+mod laws;
 pub mod limits;
+
+pub use laws::{
+    accepted_has_no_failing_test, accepted_level_means, failing_test_is_one,
+    stated_ends_are_decided,
+};
