@@ -5,3 +5,5 @@ pub mod Listed
 pub mod Opening
 pub mod Ranges
 pub mod Order
+pub mod Form
+pub mod Noted

@@ -3,8 +3,8 @@ use Rattle.std.specs.Prelude.{ℕ, ◌≤◌}
 use Rattle.vx_clock.specs.Day.{IsDayInRange}
 use Rattle.vx_clock.specs.declared.limits.TheConstants.{MINUTE_MAX}
 use Rattle.vx_symbol.specs.Rows.{IsRateInRange}
-use Rattle.vx_symbol.specs.declared.limits.TheConstants.{STRIKE_MIN, STRIKE_MAX, PRICE_MAX}
-use Rattle.vx_symbol.specs.declared.symbols.Symbol.{Symbol}
+use Rattle.vx_symbol.specs.declared.limits.TheConstants.{PRICE_MAX}
+use Rattle.vx_symbol.specs.Symbol.{IsSymbolInRange}
 use Rattle.vx_feed.specs.declared.events.Event.{Event}
 use Rattle.vx_feed.specs.declared.events.Event.TheVariants as event
 use Rattle.vx_feed.specs.declared.limits.TheConstants.{LINES_MAX}
@@ -12,10 +12,6 @@ use Rattle.vx_feed.specs.declared.limits.TheConstants.{LINES_MAX}
 -- a minute of a day
 abbrev pub IsMinute : ℕ → Type 0
 IsMinute time = time ≤ MINUTE_MAX
-
--- a series of a day of the years 2000 to 2099, with a strike from 100 to 50,000 points
-abbrev pub IsSeries : Symbol → Type 0
-IsSeries s = IsDayInRange s.date × (STRIKE_MIN ≤ s.strike) × (s.strike ≤ STRIKE_MAX)
 
 -- a bid or an ask of at most 50,000 points, in cents
 abbrev pub IsPrice : ℕ → Type 0
@@ -26,9 +22,9 @@ abbrev pub IsInRange : Event → Type 0
 IsInRange (event.Header day) = IsDayInRange day
 IsInRange (event.Expiry x) = IsDayInRange x.date
 IsInRange (event.Rate x rate) = IsDayInRange x.date × IsRateInRange rate
-IsInRange (event.Series s) = IsSeries s
-IsInRange (event.Quote time s bid ask) = IsMinute time × IsSeries s × IsPrice bid × IsPrice ask
-IsInRange (event.Trade time s price) = IsMinute time × IsSeries s × (1 ≤ price) × IsPrice price
+IsInRange (event.Series s) = IsSymbolInRange s
+IsInRange (event.Quote time s bid ask) = IsMinute time × IsSymbolInRange s × IsPrice bid × IsPrice ask
+IsInRange (event.Trade time s price) = IsMinute time × IsSymbolInRange s × (1 ≤ price) × IsPrice price
 IsInRange (event.Tick time) = IsMinute time
 IsInRange (event.Opening time) = IsMinute time
 IsInRange (event.End count) = count ≤ LINES_MAX

@@ -3,7 +3,13 @@
 
 pub mod events;
 pub mod faults;
+mod form;
+pub mod kinds;
 pub mod limits;
+mod order;
+mod read;
 
 pub use events::Event;
 pub use faults::FeedFault;
+pub use order::{Declared, Order};
+pub use read::{event_of_fields, line_fault, read_event};

@@ -1,5 +1,5 @@
 -- A text of plain lines, and one line more.
-use Rattle.std.proofs.Common.{◌≡◌, ◌∙◌, sym, ap, refl, ℕ, ◌+◌, ◌≤◌, true, false, cond, ◌==◌, List, [], ◌∷◌, ◌++◌, length, zero, suc, arith, append_assoc, lit<}
+use Rattle.std.proofs.Common.{get_or, ◌<◌, None, Some, ◌≡◌, ◌∙◌, sym, ap, refl, ℕ, ◌+◌, ◌≤◌, true, false, cond, ◌==◌, List, [], ◌∷◌, ◌++◌, length, zero, suc, arith, append_assoc, lit<}
 use Rattle.std.specs.List.{list_all, onto_first, slice_get}
 use Rattle.csv.specs.Records.{field_at}
 use Rattle.vx_fields.specs.Lines.{line_feed, is_plain, is_plain_line, lines_of, text_of}
@@ -64,3 +64,16 @@ unfolding field_at
 field_at-get [] i = refl
 field_at-get (f ∷ fields) zero = refl
 field_at-get (f ∷ fields) (suc i) = field_at-get fields i
+
+-- a field that is there is the one at its place
+pub field_at-Some : (fields : List (List ℕ)) (i : ℕ) (f : List ℕ) → Some f ≡ field_at fields i → f ≡ get_or fields i []
+unfolding field_at
+field_at-Some [] i f h = cc
+field_at-Some (g ∷ fields) zero f h = cc
+field_at-Some (g ∷ fields) (suc i) f h = field_at-Some fields i f h
+
+pub field_at-None : (fields : List (List ℕ)) (i : ℕ) → i < length fields → None ≡ field_at fields i → ⊥
+unfolding field_at
+field_at-None [] i below h = omega arith
+field_at-None (g ∷ fields) zero below h = cc
+field_at-None (g ∷ fields) (suc i) below h = field_at-None fields i (omega arith) h

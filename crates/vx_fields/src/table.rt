@@ -1,4 +1,4 @@
-ghost use Rattle.std.specs.Prelude.{◌≡◌, ◌+◌, ◌<◌, ◌≤◌, [], ◌++◌, length, map, true, ◌==◌, slice_get, take, Some, OnOk, OnErr, vec_len, option_map};
+ghost use Rattle.std.specs.Prelude.{◌≡◌, ◌+◌, ◌<◌, ◌≤◌, [], ◌++◌, length, map, true, ◌==◌, slice_get, slice_index_or, take, Some, OnOk, OnErr, vec_len, option_map};
 ghost use Rattle.std.specs.Option.{option_copied};
 ghost use Rattle.std.specs.List.{list_all};
 ghost use Rattle.csv.specs.Records.{fields_of};
@@ -136,7 +136,25 @@ impl<'a> Fields<'a> {
         self.row.len()
     }
 
-    /// The field at a place, counted from 0.
+    /// Whether there is no field. A line has one at least, so this comes of no line that was split.
+    pub fn is_empty(&self) -> bool
+        ensures { result ≡ (length self.now == 0) }
+    {
+        self.row.is_empty()
+    }
+
+    /// The field at a place that the line has, counted from 0.
+    pub fn field(&self, i: usize) -> &[u8]
+        requires { i < length self.now }
+        ensures { result.now ≡ slice_index_or self.now i [] }
+    {
+        match self.row.get(i) {
+            Some(field) => field,
+            None => unreachable!(),
+        }
+    }
+
+    /// The field at a place, counted from 0, if the line has it.
     pub fn get(&self, i: usize) -> Option<&[u8]>
         ensures { option_copied result ≡ slice_get self.now i }
     {

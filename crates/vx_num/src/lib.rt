@@ -11,5 +11,6 @@ pub mod limits;
 mod quotient;
 mod steps;
 
+pub use decimal::read_decimal;
 pub use fault::{DecimalFault, NoMemory};
 pub use quotient::{div_ceil, div_floor};

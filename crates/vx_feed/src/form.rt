@@ -1,0 +1,240 @@
+//! What a line says by itself.
+
+ghost use Rattle.std.specs.Prelude.{◌≡◌, ◌≤◌, length, IfOk, IfSome};
+ghost use Rattle.vx_clock.specs.Day.{IsDayInRange};
+ghost use Rattle.vx_symbol.specs.Rows.{IsRateInRange};
+ghost use Rattle.vx_symbol.specs.Symbol.{IsSymbolInRange};
+ghost use Rattle.vx_feed.specs.Form as spec;
+ghost use Rattle.vx_feed.specs.declared.kinds.Kind.TheVariants as kind;
+ghost use Rattle.vx_feed.specs.Ranges.{IsInRange, IsMinute, IsPrice};
+
+use crate::events::Event;
+use crate::faults::FeedFault;
+use crate::kinds::{Kind, kind_of};
+use crate::limits::LINES_MAX;
+use vx_clock::limits::{RATE_MAX, RATE_MIN};
+use vx_clock::{DayNo, Expiry, Root, digits, read_day};
+use vx_fields::Fields;
+use vx_num::read_decimal;
+use vx_symbol::limits::PRICE_MAX;
+use vx_symbol::{Symbol, read_symbol};
+
+/// The places of a rate in percent per year: one unit is 10^-6 percent.
+const RATE_PLACES: u32 = 6;
+
+/// The places of a price in points: one unit is a cent.
+const PRICE_PLACES: u32 = 2;
+
+fn read_root(text: &[u8]) -> Option<Root>
+    ensures { result ≡ spec.root_of_text text.now }
+{
+    if text == b"SPX".as_slice() {
+        Some(Root::Spx)
+    } else if text == b"SPXW".as_slice() {
+        Some(Root::Spxw)
+    } else {
+        None
+    }
+}
+
+fn read_date(text: &[u8]) -> Option<DayNo>
+    ensures value { result ≡ spec.date_of_text text.now }
+    ensures in_range { IfSome result IsDayInRange }
+{
+    read_day(text).ok()
+}
+
+fn read_series(text: &[u8]) -> Option<Symbol>
+    ensures value { result ≡ spec.series_of_text text.now }
+    ensures in_range { IfSome result IsSymbolInRange }
+{
+    read_symbol(text).ok()
+}
+
+// A time `hh:mm`, as the minute of the day.
+fn read_time(text: &[u8]) -> Option<u16>
+    ensures value { result ≡ spec.time_of_text text.now }
+    ensures in_range { IfSome result IsMinute }
+{
+    if text.len() != 5 || text[2] != b':' {
+        return None;
+    }
+    let hour = digits::number(&text[..2])?;
+    let minute = digits::number(&text[3..5])?;
+    if hour > 23 || minute > 59 {
+        return None;
+    }
+    Some((60 * hour + minute) as u16)
+}
+
+// A rate in percent per year, in 10^-8 per year.
+fn read_rate(text: &[u8]) -> Option<i32>
+    ensures value { result ≡ spec.rate_of_text text.now }
+    ensures in_range { IfSome result IsRateInRange }
+{
+    if !text.is_empty() && text[0] == b'-' {
+        let most = u64::from(RATE_MIN.unsigned_abs());
+        let units = read_decimal(&text[1..], RATE_PLACES, most).ok()?;
+        return Some(-(units as i32));
+    }
+    let units = read_decimal(text, RATE_PLACES, RATE_MAX as u64).ok()?;
+    Some(units as i32)
+}
+
+// A price in points, in cents.
+fn read_price(text: &[u8]) -> Option<u32>
+    ensures value { result ≡ spec.price_of_text text.now }
+    ensures in_range { IfSome result IsPrice }
+{
+    let cents = read_decimal(text, PRICE_PLACES, u64::from(PRICE_MAX)).ok()?;
+    Some(cents as u32)
+}
+
+// The price of a trade, which is a cent at least.
+fn read_trade_price(text: &[u8]) -> Option<u32>
+    ensures value { result ≡ spec.if_positive (spec.price_of_text text.now) }
+    ensures in_range { IfSome result (λ price. (1 ≤ price) × IsPrice price) }
+{
+    match read_price(text) {
+        Some(0) => None,
+        price => price,
+    }
+}
+
+// A count of lines.
+fn read_count(text: &[u8]) -> Option<u32>
+    ensures value { result ≡ spec.count_of_text text.now }
+    ensures in_range { IfSome result (λ count. count ≤ LINES_MAX) }
+{
+    let count = read_decimal(text, 0, u64::from(LINES_MAX)).ok()?;
+    Some(count as u32)
+}
+
+// One function for each kind of line: its event, or the first field, from 1, that says nothing.
+
+fn read_header(fields: &Fields<'_>) -> Result<Event, FeedFault>
+    requires { length fields.now ≡ 3 }
+    ensures value { result ≡ spec.event_of_kind kind.Header fields.now }
+    ensures in_range { IfOk result IsInRange }
+{
+    if fields.field(1) != b"1".as_slice() {
+        return Err(FeedFault::Field(2));
+    }
+    let day = read_date(fields.field(2)).ok_or(FeedFault::Field(3))?;
+    Ok(Event::Header { day })
+}
+
+fn read_expiry(fields: &Fields<'_>) -> Result<Event, FeedFault>
+    requires { length fields.now ≡ 3 }
+    ensures value { result ≡ spec.event_of_kind kind.Expiry fields.now }
+    ensures in_range { IfOk result IsInRange }
+{
+    let root = read_root(fields.field(1)).ok_or(FeedFault::Field(2))?;
+    let date = read_date(fields.field(2)).ok_or(FeedFault::Field(3))?;
+    Ok(Event::Expiry(Expiry { root, date }))
+}
+
+fn read_rate_line(fields: &Fields<'_>) -> Result<Event, FeedFault>
+    requires { length fields.now ≡ 4 }
+    ensures value { result ≡ spec.event_of_kind kind.Rate fields.now }
+    ensures in_range { IfOk result IsInRange }
+{
+    let root = read_root(fields.field(1)).ok_or(FeedFault::Field(2))?;
+    let date = read_date(fields.field(2)).ok_or(FeedFault::Field(3))?;
+    let rate = read_rate(fields.field(3)).ok_or(FeedFault::Field(4))?;
+    let expiry = Expiry { root, date };
+    Ok(Event::Rate { expiry, rate })
+}
+
+fn read_series_line(fields: &Fields<'_>) -> Result<Event, FeedFault>
+    requires { length fields.now ≡ 2 }
+    ensures value { result ≡ spec.event_of_kind kind.Series fields.now }
+    ensures in_range { IfOk result IsInRange }
+{
+    let symbol = read_series(fields.field(1)).ok_or(FeedFault::Field(2))?;
+    Ok(Event::Series(symbol))
+}
+
+fn read_quote(fields: &Fields<'_>) -> Result<Event, FeedFault>
+    requires { length fields.now ≡ 5 }
+    ensures value { result ≡ spec.event_of_kind kind.Quote fields.now }
+    ensures in_range { IfOk result IsInRange }
+{
+    let time = read_time(fields.field(1)).ok_or(FeedFault::Field(2))?;
+    let symbol = read_series(fields.field(2)).ok_or(FeedFault::Field(3))?;
+    let bid = read_price(fields.field(3)).ok_or(FeedFault::Field(4))?;
+    let ask = read_price(fields.field(4)).ok_or(FeedFault::Field(5))?;
+    Ok(Event::Quote {
+        time,
+        symbol,
+        bid,
+        ask,
+    })
+}
+
+fn read_trade(fields: &Fields<'_>) -> Result<Event, FeedFault>
+    requires { length fields.now ≡ 4 }
+    ensures value { result ≡ spec.event_of_kind kind.Trade fields.now }
+    ensures in_range { IfOk result IsInRange }
+{
+    let time = read_time(fields.field(1)).ok_or(FeedFault::Field(2))?;
+    let symbol = read_series(fields.field(2)).ok_or(FeedFault::Field(3))?;
+    let price = read_trade_price(fields.field(3)).ok_or(FeedFault::Field(4))?;
+    Ok(Event::Trade {
+        time,
+        symbol,
+        price,
+    })
+}
+
+fn read_tick(fields: &Fields<'_>) -> Result<Event, FeedFault>
+    requires { length fields.now ≡ 2 }
+    ensures value { result ≡ spec.event_of_kind kind.Tick fields.now }
+    ensures in_range { IfOk result IsInRange }
+{
+    let time = read_time(fields.field(1)).ok_or(FeedFault::Field(2))?;
+    Ok(Event::Tick { time })
+}
+
+fn read_opening(fields: &Fields<'_>) -> Result<Event, FeedFault>
+    requires { length fields.now ≡ 2 }
+    ensures value { result ≡ spec.event_of_kind kind.Opening fields.now }
+    ensures in_range { IfOk result IsInRange }
+{
+    let time = read_time(fields.field(1)).ok_or(FeedFault::Field(2))?;
+    Ok(Event::Opening { time })
+}
+
+fn read_end(fields: &Fields<'_>) -> Result<Event, FeedFault>
+    requires { length fields.now ≡ 2 }
+    ensures value { result ≡ spec.event_of_kind kind.End fields.now }
+    ensures in_range { IfOk result IsInRange }
+{
+    let count = read_count(fields.field(1)).ok_or(FeedFault::Field(2))?;
+    Ok(Event::End { count })
+}
+
+/// The event that a line's fields say, or the first fault of their form.
+pub(crate) fn read_form(fields: &Fields<'_>) -> Result<Event, FeedFault>
+    ensures value { result ≡ spec.event_of_fields fields.now }
+    ensures in_range { IfOk result IsInRange }
+{
+    if fields.is_empty() {
+        return Err(FeedFault::Kind);
+    }
+    let kind = kind_of(fields.field(0)).ok_or(FeedFault::Kind)?;
+    if fields.len() != kind.field_count() {
+        return Err(FeedFault::Fields);
+    }
+    match kind {
+        Kind::Header => read_header(fields),
+        Kind::Expiry => read_expiry(fields),
+        Kind::Rate => read_rate_line(fields),
+        Kind::Series => read_series_line(fields),
+        Kind::Quote => read_quote(fields),
+        Kind::Trade => read_trade(fields),
+        Kind::Tick => read_tick(fields),
+        Kind::Opening => read_opening(fields),
+        Kind::End => read_end(fields),
+    }
+}

@@ -1,0 +1,53 @@
+//! Reading the lines of a feed.
+
+ghost use Rattle.std.specs.Prelude.{IfOk};
+ghost use Rattle.vx_feed.specs.Ranges.{IsInRange};
+
+use crate::events::Event;
+use crate::faults::FeedFault;
+use crate::form::read_form;
+use crate::order::Order;
+use std::alloc::Global;
+use vx_fields::{FieldTable, Fields, LineBlock, is_plain_line};
+
+/// The event of a line that was split into its fields, after the events noted, or the first fault.
+///
+/// Takes no memory. For a line that can't be split ask [`line_fault`] first.
+pub fn event_of_fields(fields: &Fields<'_>, seen: &Order) -> Result<Event, FeedFault>
+    ensures in_range { IfOk result IsInRange }
+{
+    let event = read_form(fields)?;
+    match seen.fault(&event) {
+        Some(fault) => Err(fault),
+        None => Ok(event),
+    }
+}
+
+/// The fault of a line that can't be split into fields: `Kind` where it is empty, `Byte` where it has a
+/// byte outside 0x20 to 0x7E or a double quote. Every other line can be split.
+pub fn line_fault(line: &[u8]) -> Option<FeedFault> {
+    if line.is_empty() {
+        Some(FeedFault::Kind)
+    } else if is_plain_line(line) {
+        None
+    } else {
+        Some(FeedFault::Byte)
+    }
+}
+
+/// The event of a line, given without its LF, after the events noted, or the first fault.
+pub fn read_event(alloc: Global, line: &[u8], seen: &Order) -> Result<Event, FeedFault>
+    ensures in_range { IfOk result IsInRange }
+{
+    if line.is_empty() {
+        return Err(FeedFault::Kind);
+    }
+    if !is_plain_line(line) {
+        return Err(FeedFault::Byte);
+    }
+    let mut block = LineBlock::new(alloc);
+    block.push(line).map_err(|_| FeedFault::NoMemory)?;
+    let mut table = FieldTable::new(alloc);
+    table.fill(&block).map_err(|_| FeedFault::NoMemory)?;
+    event_of_fields(&table.line(0), seen)
+}
