@@ -1,6 +1,6 @@
 -- Laws of fractions. Each is stated twice where both forms serve: of tops and bottoms, which are cross-multiplied in the statement, and of `Fraction`s.
 -- Bottoms are naturals, written `pos m` in a product. A bound that divides by a scale `u` reads `l / u ≤ n / m` as `(l *ℤ pos m) ≤ℤ (n *ℤ pos u)`.
-use Rattle.std.proofs.Common.{◌≡◌, refl, sym, ap, ◌∙◌, ℕ, zero, suc, ◌*◌, ◌≤◌, ◌⊎◌, inl, inr, ℤ, pos, ◌+ℤ◌, ◌-ℤ◌, ◌*ℤ◌, ◌≤ℤ◌, ◌<ℤ◌, arith}
+use Rattle.std.proofs.Common.{◌≡◌, refl, sym, ap, ◌∙◌, ℕ, zero, suc, ◌*◌, ◌≤◌, ◌⊎◌, ◌↔◌, inl, inr, ℤ, pos, ◌+ℤ◌, ◌-ℤ◌, ◌*ℤ◌, ◌≤ℤ◌, ◌<ℤ◌, arith}
 use Rattle.std.proofs.lemmas.Int.{ints, by_lt_z}
 use Rattle.vx_num.specs.Fraction.{Fraction, IsProper, ◌+ᶠ◌, ◌-ᶠ◌, ◌*ᶠ◌, ◌/ᶠ◌, ◌≤ᶠ◌, ◌<ᶠ◌, ◌≃ᶠ◌, whole}
 use Rattle.vx_num.proofs.Differences.{is_difference, differences, same_difference}
@@ -255,3 +255,14 @@ whole-≤ᶠ a b h = omega (arith, ints)
 
 pub ≤ᶠ-whole : (a b : ℤ) → whole a ≤ᶠ whole b → a ≤ℤ b
 ≤ᶠ-whole a b h = omega (arith, ints)
+
+-- ---- the laws, as the calls state them
+
+pub order_both_ways : (f g : Fraction) → ((f ≤ᶠ g) × (g ≤ᶠ f)) ↔ (f ≃ᶠ g)
+order_both_ways f g = ((λ p. ≤ᶠ_antisym f g p.0 p.1), (λ e. (≃ᶠ-≤ᶠ f g e, ≃ᶠ-≤ᶠ g f (sym e))))
+
+pub factor_both_ways : (f g h : Fraction) → IsProper h → pos 0 <ℤ h.top → (f ≤ᶠ g) ↔ ((f *ᶠ h) ≤ᶠ (g *ᶠ h))
+factor_both_ways f g h p q = (*ᶠ_mono_right f g h (omega (arith, ints)), *ᶠ_cancel_right f g h p q)
+
+pub divisor_both_ways : (f g : Fraction) (n : ℕ) → 1 ≤ n → (f ≤ᶠ g) ↔ ((f /ᶠ n) ≤ᶠ (g /ᶠ n))
+divisor_both_ways f g n p = (/ᶠ_mono f g n, /ᶠ_cancel f g n p)

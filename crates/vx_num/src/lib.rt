@@ -7,6 +7,7 @@
 
 mod decimal;
 mod fault;
+pub mod laws;
 pub mod limits;
 mod quotient;
 mod steps;
