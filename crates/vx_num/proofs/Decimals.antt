@@ -19,7 +19,7 @@ use Rattle.vx_num.specs.declared.fault.DecimalFault.TheVariants.{Empty, NotDigit
 by_lt : {P : Type 0} (m n : ℕ) → (m < n → P) → (n ≤ m → P) → P
 by_lt m n f g = ⊎_elim f g (cases_lt m n)
 
-digit_no_dot : (b : ℕ) → is_digit b ≡ true → is_dot b ≡ false
+pub digit_no_dot : (b : ℕ) → is_digit b ≡ true → is_dot b ≡ false
 digit_no_dot b h = grind (arith, nat_tests)
 
 -- ---- what the digits at the front leave

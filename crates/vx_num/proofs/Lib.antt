@@ -1,7 +1,9 @@
 pub mod Differences
 pub mod Texts
 pub mod Decimals
+pub mod ReadBack
 pub mod Whole
+pub mod WrittenLemmas
 pub mod Squares
 pub mod Quotients
 pub mod Fractions

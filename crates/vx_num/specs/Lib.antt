@@ -2,3 +2,4 @@ pub mod Decimal
 pub mod Fraction
 pub mod Quotient
 pub mod SignedSquare
+pub mod Written

@@ -11,6 +11,7 @@ pub mod laws;
 pub mod limits;
 mod quotient;
 mod steps;
+mod writing;
 
 pub use decimal::read_decimal;
 pub use fault::{DecimalFault, NoMemory};

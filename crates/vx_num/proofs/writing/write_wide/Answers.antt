@@ -1,0 +1,6 @@
+-- What is written is read back.
+use Rattle.vx_num.proofs.ReadBack.{read_back_wide}
+use Rattle.vx_num.proofs.writing.write_wide.Goals as goal
+
+pub returns-clause-read_back : goal.returns-clause-read_back
+returns-clause-read_back c = read_back_wide c.args.value
