@@ -13,6 +13,8 @@ mod quotient;
 mod steps;
 mod writing;
 
-pub use decimal::read_decimal;
+pub use decimal::{read_decimal, read_wide};
 pub use fault::{DecimalFault, NoMemory};
 pub use quotient::{div_ceil, div_floor};
+pub use steps::Steps;
+pub use writing::{write_decimal, write_wide};
