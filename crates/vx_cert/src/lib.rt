@@ -4,9 +4,13 @@
 
 pub mod certificate;
 pub mod fault;
+mod field;
+mod form;
 pub mod limits;
+mod read;
 pub mod rows;
 
 pub use certificate::{CertBody, CertFigure, CertTerm, Certificate, Ends, Pair};
 pub use fault::CertFault;
+pub use read::read_cert;
 pub use rows::{CertRow, CertRows};

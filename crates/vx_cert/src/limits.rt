@@ -27,6 +27,3 @@ pub const END_BITS: u32 = 126;
 
 /// An end of an index is below two to this power in absolute value.
 pub const INDEX_END_BITS: u32 = 63;
-
-/// A Taylor term or an end of a row is below two to this power.
-pub const PART_BITS: u32 = 64;
