@@ -1,1 +1,6 @@
 pub mod EndsLemmas
+pub mod RoundingLemmas
+pub mod Enclosures
+pub mod Squares
+pub mod Widths
+pub mod Ranges

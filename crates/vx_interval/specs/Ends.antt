@@ -37,11 +37,15 @@ unit P = pos (2 ^ P)
 
 -- ---- the ends of each operation's result
 
+-- from the quotient low/den rounded down to the quotient high/den rounded up
+abbrev pub rounded_ends : ℤ → ℤ → ℤ → Ends
+rounded_ends low high den = record { lo = floor_of low den; hi = ceiling_of high den }
+
 abbrev pub exact_ends : ℕ → ℤ → Ends
 exact_ends P n = record { lo = n *ℤ unit P; hi = n *ℤ unit P }
 
 abbrev pub ratio_ends : ℕ → ℤ → ℤ → Ends
-ratio_ends P num den = record { lo = floor_of (num *ℤ unit P) den; hi = ceiling_of (num *ℤ unit P) den }
+ratio_ends P num den = rounded_ends (num *ℤ unit P) (num *ℤ unit P) den
 
 abbrev pub add_ends : Ends → Ends → Ends
 add_ends x y = record { lo = x.lo +ℤ y.lo; hi = x.hi +ℤ y.hi }
@@ -67,7 +71,7 @@ abbrev pub greatest_product : Ends → Ends → ℤ
 greatest_product x y = greatest_of_four (x.lo *ℤ y.lo) (x.lo *ℤ y.hi) (x.hi *ℤ y.lo) (x.hi *ℤ y.hi)
 
 abbrev pub mul_ends : ℕ → Ends → Ends → Ends
-mul_ends P x y = record { lo = floor_of (least_product x y) (unit P); hi = ceiling_of (greatest_product x y) (unit P) }
+mul_ends P x y = rounded_ends (least_product x y) (greatest_product x y) (unit P)
 
 -- 0 where the interval reaches over zero
 unfoldable pub least_square : Ends → ℤ
@@ -77,11 +81,11 @@ unfoldable pub greatest_square : Ends → ℤ
 greatest_square x = int_max (x.lo *ℤ x.lo) (x.hi *ℤ x.hi)
 
 abbrev pub square_ends : ℕ → Ends → Ends
-square_ends P x = record { lo = floor_of (least_square x) (unit P); hi = ceiling_of (greatest_square x) (unit P) }
+square_ends P x = rounded_ends (least_square x) (greatest_square x) (unit P)
 
 abbrev pub over_ends : Ends → ℤ → Ends
-over_ends x den = record { lo = floor_of x.lo den; hi = ceiling_of x.hi den }
+over_ends x den = rounded_ends x.lo x.hi den
 
 -- from scale P to scale R
 abbrev pub rescale_ends : ℕ → ℕ → Ends → Ends
-rescale_ends P R x = record { lo = floor_of (x.lo *ℤ unit R) (unit P); hi = ceiling_of (x.hi *ℤ unit R) (unit P) }
+rescale_ends P R x = rounded_ends (x.lo *ℤ unit R) (x.hi *ℤ unit R) (unit P)
