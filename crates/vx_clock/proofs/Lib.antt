@@ -1,4 +1,5 @@
 pub mod TermOrder
 pub mod Best
 pub mod DigitFacts
+pub mod DigitText
 pub mod DayNumbers

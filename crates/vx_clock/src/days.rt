@@ -1,10 +1,11 @@
-ghost use Rattle.std.specs.Prelude.{◌≡◌, IfOk, Ok};
+ghost use Rattle.std.specs.Prelude.{◌≡◌, ◌≤◌, IfOk};
+ghost use Rattle.jiff_core.specs.Date.{epoch_day};
 ghost use Rattle.vx_clock.specs.Day.{IsDayInRange, day_of_date, day_of_text};
 
-use crate::digits;
+use crate::digits::{self, digit};
 use crate::limits::{YEAR_MAX, YEAR_MIN};
-use jiff::ToSpan;
-use jiff::civil::{self, Date};
+use jiff::civil::Date;
+use jiff_core::civil;
 use thiserror::Error;
 
 /// A day of the calendar: the number of days from 1970-01-01 to it, so that 1970-01-01 itself is 0.
@@ -67,4 +68,44 @@ pub fn read_day(text: &[u8]) -> Result<DayNo, DayFault>
         return Err(DayFault::Form);
     };
     day_of(year, month, day)
+}
+
+/// The year, the month and the day of the month of a day of the years 2000 to 2099, as [`day_of`]
+/// takes them.
+pub fn date_of(day: DayNo) -> (u32, u32, u32)
+    requires { IsDayInRange day }
+    ensures value { day_of_date result.0 result.1 result.2 ≡ Ok day }
+    ensures year { (YEAR_MIN ≤ result.0) × (result.0 ≤ YEAR_MAX) }
+    ensures month { result.1 ≤ 12 }
+    ensures day { result.2 ≤ 31 }
+{
+    let date = calendar_date(day);
+    (date.year as u32, u32::from(date.month), u32::from(date.day))
+}
+
+fn calendar_date(day: DayNo) -> civil::Date
+    requires { IsDayInRange day }
+    ensures { epoch_day result ≡ day.0 }
+{
+    civil::Date::from_unix_epoch_day(i64::from(day.0)).unwrap()
+}
+
+/// The text `yyyy-mm-dd` of a day of the years 2000 to 2099. [`read_day`] reads it back.
+pub fn write_day(day: DayNo) -> [u8; 10]
+    requires { IsDayInRange day }
+    ensures { day_of_text result ≡ Ok day }
+{
+    let (year, month, day) = date_of(day);
+    [
+        digit(year, 1000),
+        digit(year, 100),
+        digit(year, 10),
+        digit(year, 1),
+        b'-',
+        digit(month, 10),
+        digit(month, 1),
+        b'-',
+        digit(day, 10),
+        digit(day, 1),
+    ]
 }

@@ -1,6 +1,6 @@
 //! Whole numbers in a fixed count of decimal digits, as dates, times and symbols write them.
 
-ghost use Rattle.std.specs.Prelude.{◌≡◌, ◌≤◌, ◌<◌, ◌^◌, length, IfSome};
+ghost use Rattle.std.specs.Prelude.{◌≡◌, ◌≤◌, ◌<◌, ◌+◌, ◌/◌, ◌%◌, ◌^◌, length, IfSome};
 ghost use Rattle.vx_clock.specs.Digits.{number_of};
 
 /// The number that the bytes write in decimal digits, or `None` where a byte is no digit.
@@ -19,4 +19,12 @@ pub fn number(text: &[u8]) -> Option<u32>
         value = 10 * value + u32::from(*byte - b'0');
     }
     Some(value)
+}
+
+/// The byte of the digit that a value has at a unit: at 1 its last digit, at 10 the one before.
+pub fn digit(value: u32, unit: u32) -> u8
+    requires { 0 < unit }
+    ensures { result ≡ 48 + value / unit % 10 }
+{
+    b'0' + (value / unit % 10) as u8
 }

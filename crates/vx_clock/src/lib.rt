@@ -7,6 +7,6 @@ pub mod limits;
 pub mod picking;
 pub mod terms;
 
-pub use days::{DayFault, DayNo, day_of, read_day};
+pub use days::{DayFault, DayNo, date_of, day_of, read_day, write_day};
 pub use picking::pick_terms;
 pub use terms::{Expiry, Moment, NoTerm, Root, minutes_to};
