@@ -6,4 +6,4 @@ pub mod rows;
 pub mod symbols;
 
 pub use rows::{Price, StrikeRow, TermView};
-pub use symbols::{Side, Symbol, SymbolFault, read_symbol};
+pub use symbols::{Side, Symbol, SymbolFault, read_symbol, write_symbol};

@@ -1,11 +1,12 @@
-ghost use Rattle.std.specs.Prelude.{◌≡◌, ◌≤◌, length, IfOk, IfSome};
+ghost use Rattle.std.specs.Prelude.{◌≡◌, ◌≤◌, length, slice_index, IfOk, IfSome};
 ghost use Rattle.vx_clock.specs.Day.{IsDayInRange};
-ghost use Rattle.vx_symbol.specs.Symbol.{IsSymbolInRange, IsStrikeInRange, root_of, date_of, side_of, strike_of, symbol_of_text};
+ghost use Rattle.vx_symbol.specs.Symbol.{IsSymbolInRange, IsStrikeInRange, root_text, side_byte, root_of, date_of, side_of, strike_of, symbol_of_text};
 
 use crate::limits::{STRIKE_MAX, STRIKE_MIN, SYMBOL_LEN};
 use thiserror::Error;
+use vx_clock::digits::{self, digit};
 use vx_clock::limits::YEAR_MIN;
-use vx_clock::{DayNo, Root, day_of, digits};
+use vx_clock::{DayNo, Root, date_of, day_of};
 
 /// Which side of a strike a series is.
 #[derive(Clone, Copy, Debug, PartialEq, Eq, Hash)]
@@ -67,6 +68,59 @@ pub fn read_symbol(bytes: &[u8]) -> Result<Symbol, SymbolFault>
         side,
         strike,
     })
+}
+
+/// The 21 bytes that name a series. [`read_symbol`] reads them back.
+///
+/// The day is of the years 2000 to 2099, and the strike from 100 to 50,000 points.
+pub fn write_symbol(s: &Symbol) -> [u8; SYMBOL_LEN]
+    requires { IsSymbolInRange s.now }
+    ensures { symbol_of_text result ≡ Ok s.now }
+{
+    let (year, month, day) = date_of(s.date);
+    let year = year - YEAR_MIN;
+    [
+        b'S',
+        b'P',
+        b'X',
+        root_mark(s.root),
+        b' ',
+        b' ',
+        digit(year, 10),
+        digit(year, 1),
+        digit(month, 10),
+        digit(month, 1),
+        digit(day, 10),
+        digit(day, 1),
+        side_mark(s.side),
+        digit(s.strike, 10_000_000),
+        digit(s.strike, 1_000_000),
+        digit(s.strike, 100_000),
+        digit(s.strike, 10_000),
+        digit(s.strike, 1000),
+        digit(s.strike, 100),
+        digit(s.strike, 10),
+        digit(s.strike, 1),
+    ]
+}
+
+/// The byte in which the two roots differ.
+fn root_mark(root: Root) -> u8
+    ensures { result ≡ slice_index (root_text root) 3 }
+{
+    match root {
+        Root::Spx => b' ',
+        Root::Spxw => b'W',
+    }
+}
+
+fn side_mark(side: Side) -> u8
+    ensures { result ≡ side_byte side }
+{
+    match side {
+        Side::Call => b'C',
+        Side::Put => b'P',
+    }
 }
 
 fn read_root(text: &[u8]) -> Option<Root>
