@@ -18,3 +18,6 @@ pub use fault::{DecimalFault, NoMemory};
 pub use quotient::{div_ceil, div_floor};
 pub use steps::Steps;
 pub use writing::{write_decimal, write_wide};
+
+#[cfg(test)]
+mod tests;
