@@ -7,3 +7,4 @@ pub mod Ranges
 pub mod Order
 pub mod Form
 pub mod Noted
+pub mod Next

@@ -44,6 +44,14 @@ expiry_of s = record { root = s.root; date = s.date }
 abbrev pub series_at : Expiry → Side → ℕ → Symbol
 series_at x side strike = record { root = x.root; date = x.date; side = side; strike = strike }
 
+abbrev pub opposite : Side → Side
+opposite Call = Put
+opposite Put = Call
+
+-- the series of the same strike on the other side
+abbrev pub other_side : Symbol → Symbol
+other_side s = series_at (expiry_of s) (opposite s.side) s.strike
+
 abbrev pub is_listed : Symbol → List Event → Bool
 is_listed s events = list_any (lists_series s) events
 

@@ -1,6 +1,7 @@
 -- The list of events for which an order of events stands.
-use Rattle.std.specs.Prelude.{◌≡◌, ℕ, nat_lt, List, [], ◌∷◌, length, map, if◌then◌else◌}
-use Rattle.std.specs.List.{list_any}
+use Rattle.std.specs.Prelude.{◌≡◌, ℕ, Bool, nat_lt, List, length, map}
+use Rattle.std.specs.List.{find, list_any}
+use Rattle.std.specs.Option.{option_map_or}
 use Rattle.std.specs.HashSet.{contains}
 use Rattle.vx_clock.specs.declared.terms.Expiry.{Expiry}
 use Rattle.vx_symbol.specs.declared.symbols.Symbol.{Symbol}
@@ -16,10 +17,13 @@ use Rattle.vx_feed.specs.Order.{IsLawfulNext, is_end, is_later_than}
 abbrev pub kept_expiry : Declared → Expiry
 kept_expiry d = d.expiry
 
+-- this is what is kept of the expiry
+abbrev pub keeps : Expiry → Declared → Bool
+keeps x d = is_same_expiry x d.expiry
+
 -- how many strikes are kept for an expiry
 abbrev pub kept_strikes : Expiry → List Declared → ℕ
-kept_strikes x [] = 0
-kept_strikes x (d ∷ ds) = if is_same_expiry x d.expiry then d.strikes else kept_strikes x ds
+kept_strikes x ds = option_map_or (λ d. d.strikes) (find (keeps x) ds) 0
 
 -- each part that the order keeps is what the list of events says
 pub record StandsFor (order : Order) (events : List Event) : Type 0 where

@@ -5,6 +5,7 @@ pub mod events;
 pub mod faults;
 mod form;
 pub mod kinds;
+pub mod laws;
 pub mod limits;
 mod order;
 mod read;

@@ -1,11 +1,13 @@
 //! Which event may follow the events so far.
 
-ghost use Rattle.std.specs.Prelude.{◌≡◌, [], ◌∷◌, ◌++◌, List, ℕ, length, IfOk, OnOk, OnErr, nat_lt};
+ghost use Rattle.std.specs.Prelude.{◌≡◌, [], ◌∷◌, ◌++◌, List, ℕ, length, IfOk, OnOk, OnErr, nat_lt, map};
 ghost use Rattle.std.specs.List.{list_any};
 ghost use Rattle.std.specs.Option.{option_map_or};
 ghost use Rattle.vx_feed.specs.declared.events.Event.{Event};
 ghost use Rattle.vx_feed.specs.Listed as spec;
 ghost use Rattle.vx_feed.specs.Order as order;
+ghost use Rattle.vx_feed.specs.Same.{is_same_expiry, is_same_series};
+ghost use Rattle.vx_feed.specs.Noted.{keeps};
 
 use crate::events::Event;
 use crate::faults::FeedFault;
@@ -46,7 +48,9 @@ fn expiry_of(symbol: &Symbol) -> Expiry
 }
 
 // The series of the same strike on the other side.
-fn other_side(symbol: &Symbol) -> Symbol {
+fn other_side(symbol: &Symbol) -> Symbol
+    ensures { result ≡ spec.other_side symbol.now }
+{
     let side = match symbol.side {
         Side::Call => Side::Put,
         Side::Put => Side::Call,
@@ -55,7 +59,9 @@ fn other_side(symbol: &Symbol) -> Symbol {
 }
 
 // Whether an expiry is 1 to 180 days after the trade date.
-fn is_days_ahead(expiry: &Expiry, day: DayNo) -> bool {
+fn is_days_ahead(expiry: &Expiry, day: DayNo) -> bool
+    ensures { result ≡ order.is_days_ahead expiry.now day }
+{
     let days = i64::from(expiry.date.0) - i64::from(day.0);
     1 <= days && days <= i64::from(EXPIRY_DAYS_MAX)
 }
@@ -75,14 +81,19 @@ impl Event {
     }
 }
 
+// Whether an expiry is among the declared ones.
+fn is_among(expiries: &[Declared], expiry: &Expiry) -> bool
+    ensures { result ≡ list_any (keeps expiry.now) expiries.now }
+{
+    expiries.iter().any(|declared| *expiry == declared.expiry)
+}
+
 // How many distinct strikes are listed for an expiry.
 fn strikes_kept(expiries: &[Declared], expiry: &Expiry) -> u32 {
-    for declared in expiries {
-        if declared.expiry == *expiry {
-            return declared.strikes;
-        }
-    }
-    0
+    expiries
+        .iter()
+        .find(|declared| *expiry == declared.expiry)
+        .map_or(0, |declared| declared.strikes)
 }
 
 // One strike more for an expiry.
@@ -110,9 +121,7 @@ impl Order {
     }
 
     fn is_declared(&self, expiry: &Expiry) -> bool {
-        self.expiries
-            .iter()
-            .any(|declared| declared.expiry == *expiry)
+        is_among(&self.expiries, expiry)
     }
 
     fn is_listed(&self, symbol: &Symbol) -> bool {
