@@ -90,7 +90,7 @@ level_at_one rows pair k0 P e proper one h =
 zero_exponent : (minutes : ℕ) → (exponent (pos 0) minutes).top ≡ pos 0
 zero_exponent minutes = omega (arith, ints)
 
-means_level : (events : List Event) (v line time : ℕ) (x : Expiry) (pair : CertPair) (k0 : ℕ) → AreLawful events
+pub means_level : (events : List Event) (v line time : ℕ) (x : Expiry) (pair : CertPair) (k0 : ℕ) → AreLawful events
     → BodyMeets INDEX_DAYS INDEX_WINDOW events v line time (K0 x pair k0) A1
     → BodyMeets INDEX_DAYS INDEX_WINDOW events v line time (K0 x pair k0) A4
     → BodyMeets INDEX_DAYS INDEX_WINDOW events v line time (K0 x pair k0) A7
