@@ -3,6 +3,12 @@
 //!
 //! Everything the product computes is exact arithmetic of whole numbers and of fractions compared
 //! by cross multiplication. The definitions stand in `specs/`.
+//!
+//! `proofs/` has lemmas for the crates above, whose proofs cite them as
+//! `use Rattle.vx_num.proofs.Whole.{mul_mono}`: `Whole` on products of whole numbers and their
+//! order, `Differences` for identities of whole numbers in one line, `Squares` on products and
+//! squares within bounds, `Quotients` on quotients that are rounded down or up, and `Fractions` on
+//! fractions, both by top and bottom and as one value.
 #![tactic(auto)]
 
 mod decimal;

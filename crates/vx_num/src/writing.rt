@@ -8,22 +8,25 @@ use crate::fault::NoMemory;
 use std::alloc::Global;
 use std::marker::Model;
 
-/// The longest text: 39 digits, a dot and a minus sign.
+/// The longest text: the 39 digits of the widest number, a dot and a minus sign.
 const ROOM: usize = 41;
 
 /// A text that is written from its end.
 #[derive(Drop)]
 struct Backwards {
-    bytes: [u8; 41],
+    bytes: [u8; ROOM],
     start: usize,
 }
 
 impl Model for Backwards {
+    ghost use Rattle.std.specs.Prelude.{ℕ, ◌≤◌, List, drop};
+    ghost use Rattle.vx_num.specs.declared.writing.TheConstants.{ROOM};
+
     ghost Value = { List ℕ };
 
     ghost view = { λ t. drop t.start t.bytes };
 
-    ghost invariant = { λ t. t.start ≤ 41 };
+    ghost invariant = { λ t. t.start ≤ ROOM };
 }
 
 impl Backwards {
@@ -31,13 +34,13 @@ impl Backwards {
         ensures { result ≡ [] }
     {
         Backwards {
-            bytes: [0; 41],
+            bytes: [0; ROOM],
             start: ROOM,
         }
     }
 
     fn put(&mut self, byte: u8)
-        requires { length self.old < 41 }
+        requires { length self.old < ROOM }
         ensures { self.new ≡ byte ∷ self.old }
     {
         self.start -= 1;
@@ -45,7 +48,7 @@ impl Backwards {
     }
 
     fn put_digit(&mut self, digit: u8)
-        requires room { length self.old < 41 }
+        requires room { length self.old < ROOM }
         requires digit { digit < 10 }
         ensures { self.new ≡ digit_byte digit ∷ self.old }
     {
@@ -61,8 +64,8 @@ impl Backwards {
 
 /// Writes a number below `2^64`, without leading zeros.
 fn put_small(text: &mut Backwards, value: u64)
-    requires room { length text.old < 41 }
-    requires fits { value < 10 ^ (41 - length text.old) }
+    requires room { length text.old < ROOM }
+    requires fits { value < 10 ^ (ROOM - length text.old) }
     ensures { text.new ≡ natural_text value ++ text.old }
 {
     let mut rest = value;
@@ -75,8 +78,8 @@ fn put_small(text: &mut Backwards, value: u64)
 
 /// Writes a number without leading zeros.
 fn put_natural(text: &mut Backwards, value: u128)
-    requires room { length text.old < 41 }
-    requires fits { value < 10 ^ (41 - length text.old) }
+    requires room { length text.old < ROOM }
+    requires fits { value < 10 ^ (ROOM - length text.old) }
     ensures { text.new ≡ natural_text value ++ text.old }
 {
     let mut rest = value;
@@ -90,7 +93,7 @@ fn put_natural(text: &mut Backwards, value: u128)
 
 /// Writes the last digits of a number, and answers what stands before them.
 fn put_last_digits(text: &mut Backwards, value: u128, count: u32) -> u128
-    requires { length text.old + count ≤ 41 }
+    requires { length text.old + count ≤ ROOM }
     ensures written { text.new ≡ last_digits count value ++ text.old }
     ensures rest { result ≡ value / 10 ^ count }
 {
@@ -147,7 +150,6 @@ pub fn write_decimal(
     ensures refused { OnErr result (out.new.items ≡ out.old.items) }
     ensures read_back { (max : ℕ) → value ≤ max → decimal_of (decimal_text value places) places max ≡ Ok value }
 {
-    let _ = alloc;
     let text = decimal_backwards(value, places);
     out.extend_from_slice(text.text()).map_err(|_| NoMemory)
 }
@@ -163,7 +165,6 @@ pub fn write_wide(alloc: Global, out: &mut Vec<u8>, value: i128) -> Result<(), N
     ensures refused { OnErr result (out.new.items ≡ out.old.items) }
     ensures read_back { (bits : ℕ) → nat_abs value < 2 ^ bits → wide_of (wide_text value) bits ≡ Ok value }
 {
-    let _ = alloc;
     let text = wide_backwards(value);
     out.extend_from_slice(text.text()).map_err(|_| NoMemory)
 }
