@@ -9,7 +9,7 @@ use Rattle.vx_formula.specs.Pair.{Pair, IsAsClose}
 use Rattle.vx_formula.specs.Forward.{forward_at}
 use Rattle.vx_formula.specs.Level.{strikes}
 use Rattle.vx_formula.specs.Undecided.{Straddles}
-use Rattle.vx_formula.specs.Examples.{at_cents, row_at, at_rate_zero, tied_pair, tied_rows, StopsAtTwoZeroBids, PassesSingleZeroBids, TieTakesLowestStrike, TiedForward, TiedLevel, TiedHasNoPut, TwiceTheLevelCounts, MoreDoesNotCount, HalfCentStraddles, HalfCentBelongsAbove, NoneBelowHalfCent, ZeroStraddles, NoneBelowZero, HalfRoundsUp, StrikeIsBetween, OthersAreNot, SumOfTwo, SumAboveTwo, SampleStrip, SampleRounds, SampleIsBetween}
+use Rattle.vx_formula.specs.Examples.{at_cents, row_at, at_rate_zero, tied_pair, tied_rows, StopsAtTwoZeroBids, PassesSingleZeroBids, TieTakesLowestStrike, TiedForward, TiedLevel, TiedHasNoPut, TwiceTheLevelCounts, MoreDoesNotCount, HalfCentStraddles, HalfCentBelongsAbove, NoneBelowHalfCent, ZeroStraddles, NoneBelowZero, HalfRoundsUp, StrikeIsBetween, OthersAreNot, SumOfTwo, SumAboveTwo, SampleStrip, SampleRounds, SampleIsBetween, AllAreTouched, NoneIsTouched, NeighboursAreTouched, BoughtGain, SoldLose, SoldMinisGain}
 use Rattle.vx_formula.proofs.Lists.{In, in_from_contains}
 
 pub stops_at_two_zero_bids : StopsAtTwoZeroBids
@@ -112,3 +112,21 @@ sample_rounds = record { at_least = le_z_yes tt; below = lt_z_yes tt }
 
 pub sample_is_between : SampleIsBetween
 sample_is_between = record { at_least = le_z_yes tt; at_most = le_z_yes tt }
+
+pub all_are_touched : AllAreTouched
+all_are_touched = refl
+
+pub none_is_touched : NoneIsTouched
+none_is_touched = refl
+
+pub neighbours_are_touched : NeighboursAreTouched
+neighbours_are_touched = refl
+
+pub bought_gain : BoughtGain
+bought_gain = refl
+
+pub sold_lose : SoldLose
+sold_lose = refl
+
+pub sold_minis_gain : SoldMinisGain
+sold_minis_gain = refl

@@ -14,6 +14,8 @@ use Rattle.vx_formula.specs.Rounds.{RoundsAt}
 use Rattle.vx_formula.specs.Between.{BetweenAt}
 use Rattle.vx_formula.specs.Refusal.{HasNoneAbove, HasNoPut}
 use Rattle.vx_formula.specs.Undecided.{Straddles, StrikeStraddles}
+use Rattle.vx_formula.specs.Touched.{touched_count}
+use Rattle.vx_formula.specs.Settlement.{IsSettlementAmount}
 
 -- a price whose bid and ask are so many cents, one whose bid is 0, and none
 abbrev pub at_cents : ℕ → Price
@@ -151,3 +153,34 @@ SampleRounds = RoundsAt 2066 sample_square
 
 abbrev pub SampleIsBetween : Type 0
 SampleIsBetween = BetweenAt (pos 20657919) (pos 20657920) sample_square
+
+-- ---- a strip of four entries, kept: it has four touched entries at first and none the second time; without its third strike
+-- the widths of two neighbours change
+
+abbrev pub first_strip : List StripEntry
+first_strip =
+    entry_at 1900000 200000 4000 ∷ (entry_at 2000000 200000 20000 ∷ (entry_at 2100000 300000 4000 ∷ (entry_at 2300000 400000 800 ∷ [])))
+
+abbrev pub thinned_strip : List StripEntry
+thinned_strip = entry_at 1900000 200000 4000 ∷ (entry_at 2000000 400000 20000 ∷ (entry_at 2300000 600000 800 ∷ []))
+
+abbrev pub AllAreTouched : Type 0
+AllAreTouched = touched_count [] first_strip ≡ 4
+
+abbrev pub NoneIsTouched : Type 0
+NoneIsTouched = touched_count first_strip first_strip ≡ 0
+
+abbrev pub NeighboursAreTouched : Type 0
+NeighboursAreTouched = touched_count first_strip thinned_strip ≡ 2
+
+-- ---- the figure 20.66 settles five contracts at 20.0000 to 3300.00 dollars, five sold to the opposite, and three minis sold
+-- at 21.0000 to 102.00
+
+abbrev pub BoughtGain : Type 0
+BoughtGain = IsSettlementAmount 2066 (record { multiplier = 1000; quantity = pos 5; last = 200000 }) (pos 330000)
+
+abbrev pub SoldLose : Type 0
+SoldLose = IsSettlementAmount 2066 (record { multiplier = 1000; quantity = negsuc 4; last = 200000 }) (negsuc 329999)
+
+abbrev pub SoldMinisGain : Type 0
+SoldMinisGain = IsSettlementAmount 2066 (record { multiplier = 100; quantity = negsuc 2; last = 210000 }) (pos 10200)

@@ -17,6 +17,9 @@ pub mod Between
 pub mod Refusal
 pub mod Undecided
 pub mod Clear
+-- what is kept between figures, and what a figure settles
+pub mod Touched
+pub mod Settlement
 -- what holds of them
 pub mod Laws
 -- and worked examples

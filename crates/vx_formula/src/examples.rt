@@ -1,6 +1,6 @@
 //! Worked examples of the definitions. Each function does nothing: its clauses are the example.
 
-ghost use Rattle.vx_formula.specs.Examples.{StopsAtTwoZeroBids, PassesSingleZeroBids, TieTakesLowestStrike, TiedForward, TiedLevel, TiedHasNoPut, TwiceTheLevelCounts, MoreDoesNotCount, HalfCentStraddles, HalfCentBelongsAbove, NoneBelowHalfCent, ZeroStraddles, NoneBelowZero, HalfRoundsUp, StrikeIsBetween, OthersAreNot, SumOfTwo, SumAboveTwo, SampleStrip, SampleRounds, SampleIsBetween};
+ghost use Rattle.vx_formula.specs.Examples.{StopsAtTwoZeroBids, PassesSingleZeroBids, TieTakesLowestStrike, TiedForward, TiedLevel, TiedHasNoPut, TwiceTheLevelCounts, MoreDoesNotCount, HalfCentStraddles, HalfCentBelongsAbove, NoneBelowHalfCent, ZeroStraddles, NoneBelowZero, HalfRoundsUp, StrikeIsBetween, OthersAreNot, SumOfTwo, SumAboveTwo, SampleStrip, SampleRounds, SampleIsBetween, AllAreTouched, NoneIsTouched, NeighboursAreTouched, BoughtGain, SoldLose, SoldMinisGain};
 
 /// One zero bid in a row is left out, and nothing beyond two in a row is taken.
 pub fn zero_bids()
@@ -49,4 +49,18 @@ pub fn sample_figure()
     ensures strip { SampleStrip }
     ensures rounds { SampleRounds }
     ensures between { SampleIsBetween }
+{}
+
+/// How many entries of a strip differ from those that were kept.
+pub fn kept_strip()
+    ensures all { AllAreTouched }
+    ensures none { NoneIsTouched }
+    ensures neighbours { NeighboursAreTouched }
+{}
+
+/// What a figure of 20.66 settles.
+pub fn settled_positions()
+    ensures bought { BoughtGain }
+    ensures sold { SoldLose }
+    ensures minis { SoldMinisGain }
 {}
