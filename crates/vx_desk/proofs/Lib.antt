@@ -2,3 +2,4 @@ pub mod SendingLemmas
 pub mod ReaderLemmas
 pub mod NextLemmas
 pub mod UntoldLemmas
+pub mod MemoryLemmas

@@ -5,3 +5,5 @@ pub mod Lines
 pub mod Refill
 pub mod Failures
 pub mod Untold
+pub mod Memory
+pub mod MemFiles

@@ -1,5 +1,5 @@
 -- What a desk tells of a slot, and what its calls do to it.
-use Rattle.std.specs.Prelude.{◌≡◌, ◌≢◌, ℕ, ◌+◌, ◌-◌, ◌^◌, ◌<◌, ◌≤◌, min, Bool, IsTrue, List, [], length, take, Option, Some, IfSome, Result, Ok, IfOk, OnOk, OnErr, MatchResult}
+use Rattle.std.specs.Prelude.{false, ◌≡◌, ◌≢◌, ℕ, ◌+◌, ◌-◌, ◌^◌, ◌<◌, ◌≤◌, min, Bool, IsTrue, List, [], length, take, Option, Some, IfSome, Result, Ok, IfOk, OnOk, OnErr, MatchResult}
 use Rattle.std.specs.Io.KnownBytes.{prepend_known, append_known, IsAtEnd}
 use Rattle.vx_desk.specs.declared.device.Slot.{Slot}
 use Rattle.vx_desk.specs.declared.device.Slot.TheVariants.{Out}
@@ -105,3 +105,7 @@ pub record Writes (bytes : List ℕ) (old new : Told) (result : Result ℕ Faile
   pub progress : IfOk result (λ n. 0 < length bytes → 0 < n)
   pub writes : Counts result old.failed_writes new.failed_writes
   pub rest : ChangesWrites old new
+
+-- no slot but the output is open
+abbrev pub OnlyOutIsOpen : (Slot → Told) → Type 0
+OnlyOutIsOpen told = (slot : Slot) → slot ≢ Out → (told slot).is_open ≡ false

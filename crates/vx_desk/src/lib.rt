@@ -6,12 +6,14 @@
 mod device;
 mod failures;
 mod lines;
+mod memory;
 mod reader;
 mod real;
 mod sending;
 
 pub use device::{Desk, Failed, Slot};
 pub use lines::{LF, Line, ReadFault};
+pub use memory::MemDesk;
 pub use reader::{LONGEST_LINE, LineReader};
 pub use real::RealDesk;
 pub use sending::{SendFault, send};
