@@ -9,3 +9,4 @@ mod interval;
 mod product;
 
 pub use interval::Iv;
+pub use product::power_of_two;

@@ -3,8 +3,8 @@
 ghost use Rattle.std.specs.Prelude.{◌≡◌, ◌*◌, ◌^◌, ◌≤◌, nat_abs, ◌*ℤ◌, ◌≤ℤ◌, neg_ℤ, pos};
 ghost use Rattle.vx_interval.specs.Ends.{greatest_of_four, greatest_square, least_of_four, least_square, unit};
 
-/// `2^exponent`.
-pub(crate) fn power_of_two(exponent: u32) -> i128
+/// `2^exponent`: at the scale `exponent`, as many units are 1.
+pub fn power_of_two(exponent: u32) -> i128
     requires { exponent ≤ 62 }
     ensures { result ≡ unit exponent }
 {

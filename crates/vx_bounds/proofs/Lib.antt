@@ -1,0 +1,7 @@
+pub mod TermLemmas
+pub mod EndLemmas
+pub mod Loops
+pub mod Straddles
+pub mod Roots
+pub mod Steps
+pub mod Values

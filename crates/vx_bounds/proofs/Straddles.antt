@@ -1,0 +1,17 @@
+-- Two figures that differ have a boundary between them.
+use Rattle.std.proofs.Common.{◌≡◌, ℕ, ◌+◌, ◌-◌, ◌*◌, ◌/◌, ◌<◌, ◌≤◌, ◌≢◌, inl, inr, ℤ, pos, negsuc, ◌≤ℤ◌, ◌<ℤ◌, refl, sym, subst, arith, le_refl, lt_irrefl, nat_abs}
+use Rattle.std.proofs.lemmas.Int.{ints}
+use Rattle.vx_bounds.specs.Cents.{IsBoundary, IsStraddled, cents_of}
+
+pub straddled_naturals : (a b : ℕ) → a ≤ b → cents_of a ≢ cents_of b → IsStraddled (pos a) (pos b)
+straddled_naturals a b l ne =
+    let rise : cents_of a < cents_of b = omega arith in
+    let k : ℕ = cents_of b - 1 in
+    let low : a < 10000 * k + 5000 = omega arith in
+    let high : 10000 * k + 5000 ≤ b = omega arith in
+    (pos (10000 * k + 5000), inr (k, refl), omega (arith, ints), omega (arith, ints))
+
+pub straddled : (lo hi : ℤ) → pos 0 ≤ℤ lo → lo ≤ℤ hi → cents_of (nat_abs lo) ≢ cents_of (nat_abs hi) → IsStraddled lo hi
+straddled (pos a) (pos b) p l ne = straddled_naturals a b (omega (arith, ints)) ne
+straddled (pos a) (negsuc b) p l ne = absurd (omega (arith, ints))
+straddled (negsuc a) hi p l ne = absurd (omega (arith, ints))
