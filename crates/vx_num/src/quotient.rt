@@ -16,7 +16,7 @@ pub fn div_ceil(a: i128, b: i128) -> i128
     requires { pos 0 <ℤ b }
     ensures { IsCeiling a b result }
 {
-    // Negating a quotient, and no dividend: the least i128 has no opposite.
+    // No dividend is negated, since the least number of this width has no opposite.
     if a > 0 {
         (a - 1).div_euclid(b) + 1
     } else {
