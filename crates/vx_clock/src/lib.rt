@@ -3,9 +3,12 @@
 
 pub mod days;
 pub mod digits;
+pub mod laws;
 pub mod limits;
 pub mod picking;
 pub mod terms;
+#[cfg(test)]
+mod tests;
 
 pub use days::{DayFault, DayNo, date_of, day_of, read_day, write_day};
 pub use picking::pick_terms;
