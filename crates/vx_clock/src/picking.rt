@@ -18,12 +18,17 @@ pub fn pick_terms(
     window: u32,
     expiries: &[Expiry],
 ) -> Result<(usize, usize), NoTerm>
-    ensures near { IfOk result (λ places. IsSomeAnd (slice_get expiries.now places.0) (IsNearTerm now.day days window expiries.now)) }
-    ensures next { IfOk result (λ places. IsSomeAnd (slice_get expiries.now places.1) (IsNextTerm now.day days window expiries.now)) }
+    ensures near { IfOk result (λ places. IsSomeAnd (slice_get expiries.now places.0)
+        (IsNearTerm now.day days window expiries.now)) }
+    ensures next { IfOk result (λ places. IsSomeAnd (slice_get expiries.now places.1)
+        (IsNextTerm now.day days window expiries.now)) }
 
-    // NoTerm names near wherever near is missing.
-    ensures no_near { (result ≡ Err NoTerm.Near) ↔ All (λ e. ¬ (IsInNearWindow now.day days window e)) expiries.now }
-    ensures no_next { (result ≡ Err NoTerm.Next) ↔ (Any (IsInNearWindow now.day days window) expiries.now × All (λ e. ¬ (IsInNextWindow now.day days window e)) expiries.now) }
+    // Where both terms are missing, near is named.
+    ensures no_near { (result ≡ Err NoTerm.Near)
+        ↔ All (λ e. ¬ (IsInNearWindow now.day days window e)) expiries.now }
+    ensures no_next { (result ≡ Err NoTerm.Next)
+        ↔ (Any (IsInNearWindow now.day days window) expiries.now
+        × All (λ e. ¬ (IsInNextWindow now.day days window e)) expiries.now) }
 {
     let near = near_place(now.day, days, window, expiries).ok_or(NoTerm::Near)?;
     let next = next_place(now.day, days, window, expiries).ok_or(NoTerm::Next)?;
@@ -31,7 +36,8 @@ pub fn pick_terms(
 }
 
 fn near_place(today: DayNo, days: u32, window: u32, expiries: &[Expiry]) -> Option<usize>
-    ensures found { IfSome result (λ place. IsSomeAnd (slice_get expiries.now place) (IsNearTerm today days window expiries.now)) }
+    ensures found { IfSome result (λ place. IsSomeAnd (slice_get expiries.now place)
+        (IsNearTerm today days window expiries.now)) }
     ensures none { IfNone result (All (λ e. ¬ (IsInNearWindow today days window e)) expiries.now) }
 {
     let mut best = None;
@@ -39,6 +45,23 @@ fn near_place(today: DayNo, days: u32, window: u32, expiries: &[Expiry]) -> Opti
         if is_in_near_window(today, days, window, *expiry) {
             best = match best {
                 Some(other) if is_taken_before_as_near(expiries[other], *expiry) => Some(other),
+                _ => Some(place),
+            };
+        }
+    }
+    best
+}
+
+fn next_place(today: DayNo, days: u32, window: u32, expiries: &[Expiry]) -> Option<usize>
+    ensures found { IfSome result (λ place. IsSomeAnd (slice_get expiries.now place)
+        (IsNextTerm today days window expiries.now)) }
+    ensures none { IfNone result (All (λ e. ¬ (IsInNextWindow today days window e)) expiries.now) }
+{
+    let mut best = None;
+    for (place, expiry) in expiries.iter().enumerate() {
+        if is_in_next_window(today, days, window, *expiry) {
+            best = match best {
+                Some(other) if is_taken_before_as_next(expiries[other], *expiry) => Some(other),
                 _ => Some(place),
             };
         }
@@ -80,20 +103,4 @@ fn is_taken_before_as_next(a: Expiry, b: Expiry) -> bool
     ensures { MatchBool result (IsTakenBeforeAsNext a b) (IsTakenBeforeAsNext b a) }
 {
     a.date.0 < b.date.0 || a.date.0 == b.date.0 && a.root.rank() <= b.root.rank()
-}
-
-fn next_place(today: DayNo, days: u32, window: u32, expiries: &[Expiry]) -> Option<usize>
-    ensures found { IfSome result (λ place. IsSomeAnd (slice_get expiries.now place) (IsNextTerm today days window expiries.now)) }
-    ensures none { IfNone result (All (λ e. ¬ (IsInNextWindow today days window e)) expiries.now) }
-{
-    let mut best = None;
-    for (place, expiry) in expiries.iter().enumerate() {
-        if is_in_next_window(today, days, window, *expiry) {
-            best = match best {
-                Some(other) if is_taken_before_as_next(expiries[other], *expiry) => Some(other),
-                _ => Some(place),
-            };
-        }
-    }
-    best
 }
