@@ -4,6 +4,8 @@
 pub mod limits;
 pub mod rows;
 pub mod symbols;
+#[cfg(test)]
+mod tests;
 
 pub use rows::{Price, StrikeRow, TermView};
 pub use symbols::{Side, Symbol, SymbolFault, read_symbol, write_symbol};
