@@ -6,5 +6,6 @@ pub mod Opening
 pub mod Ranges
 pub mod Order
 pub mod Form
+pub mod Feed
 pub mod Noted
 pub mod Next

@@ -1,6 +1,7 @@
 //! Reading the lines of a feed.
 
-ghost use Rattle.std.specs.Prelude.{IfOk};
+ghost use Rattle.std.specs.Prelude.{◌≡◌, IfOk};
+ghost use Rattle.vx_feed.specs.Feed.{unsplit_fault};
 ghost use Rattle.vx_feed.specs.Ranges.{IsInRange};
 
 use crate::events::Event;
@@ -25,7 +26,9 @@ pub fn event_of_fields(fields: &Fields<'_>, seen: &Order) -> Result<Event, FeedF
 
 /// The fault of a line that can't be split into fields: `Kind` where it is empty, `Byte` where it has a
 /// byte outside 0x20 to 0x7E or a double quote. Every other line can be split.
-pub fn line_fault(line: &[u8]) -> Option<FeedFault> {
+pub fn line_fault(line: &[u8]) -> Option<FeedFault>
+    ensures { result ≡ unsplit_fault line.now }
+{
     if line.is_empty() {
         Some(FeedFault::Kind)
     } else if is_plain_line(line) {
