@@ -108,6 +108,7 @@ ends_too_long old now new before after fault on long is ended =
     rw is (
       gives_none old now new before after on (ap (λ (s : ReaderState). s.number) ended) (ap (λ (s : ReaderState). s.last) ended) (ap (λ (s : ReaderState). s.waiting) ended),
       record { numbered = ap next_number number; ended = (on.open_yet, ap (λ (s : ReaderState). s.is_ended) ended) },
+      subst (λ n. IsTooLong n new.waiting) limit (subst (IsTooLong now.limit) (sym (ap (λ (s : ReaderState). s.waiting) ended)) long),
       subst (λ known. IfSome known (IsTooLong old.limit)) on.come (subst (λ n. IfSome (to_come now after) (IsTooLong n)) limit (too_long_before now.limit now.waiting after.left long)),
     )
 
@@ -144,7 +145,7 @@ answers_end old now new before after (Ok line) on end no_lf fits h =
     rw h.0 (
       none,
       ap (λ (s : ReaderState). s.is_ended) h.2 ∙ ap (λ (s : ReaderState). s.is_ended) on.state,
-      λ yet. subst IsAtEnd on.come (subst (λ xs. IsAtEnd (prepend_known xs after.left)) (sym h.1) (at_end_before after.left end)),
+      λ yet. (ap (λ (s : ReaderState). s.waiting) h.2 ∙ h.1, subst IsAtEnd on.come (subst (λ xs. IsAtEnd (prepend_known xs after.left)) (sym h.1) (at_end_before after.left end))),
     )
 answers_end old now new before after (Err fault) on end no_lf fits h =
     let number = ap (λ (s : ReaderState). s.number) on.state in
@@ -153,6 +154,7 @@ answers_end old now new before after (Err fault) on end no_lf fits h =
     rw h.1 (
       gives_none old now new before after on (ap (λ (s : ReaderState). s.number) h.2) (ap (λ (s : ReaderState). s.last) h.2) (ap (λ (s : ReaderState). s.waiting) h.2),
       record { numbered = ap next_number number; ended = (on.open_yet, ap (λ (s : ReaderState). s.is_ended) h.2) },
+      subst (λ n. IsCutOff n new.waiting) limit (subst (IsCutOff now.limit) (sym (ap (λ (s : ReaderState). s.waiting) h.2)) off),
       subst (λ known. IfSome known (IsCutOff old.limit)) on.come (subst (λ n. IfSome (to_come now after) (IsCutOff n)) limit (cut_off_before now.limit now.waiting after.left end off)),
     )
 

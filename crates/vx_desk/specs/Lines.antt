@@ -67,7 +67,7 @@ pub record GivesNone (old new : ReaderState) (before after : Option (List ℕ)) 
   pub last : new.last ≡ None
   pub kept : after ≡ before
 
--- the bytes that wait are no line, whatever comes after them, and nothing more is given
+-- what waits is no line, and nothing more is given
 pub record EndsReading (old new : ReaderState) (number : ℕ) : Type 0 where
   pub numbered : number ≡ next_number old.number
   pub ended : (old.is_ended ≡ false) × (new.is_ended ≡ true)
@@ -75,10 +75,10 @@ pub record EndsReading (old new : ReaderState) (number : ℕ) : Type 0 where
 -- what `next` answers, by the bytes to come before and after it
 abbrev pub Answers : ReaderState → ReaderState → Option (List ℕ) → Option (List ℕ) → Result (Option Line) ReadFault → Type 0
 Answers old new before after (Ok (Some line)) = GivesLine old new before after line
-Answers old new before after (Ok None) = GivesNone old new before after × (new.is_ended ≡ old.is_ended) × (old.is_ended ≡ false → IsAtEnd before)
+Answers old new before after (Ok None) = GivesNone old new before after × (new.is_ended ≡ old.is_ended) × (old.is_ended ≡ false → (new.waiting ≡ []) × IsAtEnd before)
 Answers old new before after (Err Device) = GivesNone old new before after × (old.is_ended ≡ false) × (new.is_ended ≡ false)
-Answers old new before after (Err (LineTooLong number)) = GivesNone old new before after × EndsReading old new number × IfSome before (IsTooLong old.limit)
-Answers old new before after (Err (NoEol number)) = GivesNone old new before after × EndsReading old new number × IfSome before (IsCutOff old.limit)
+Answers old new before after (Err (LineTooLong number)) = GivesNone old new before after × EndsReading old new number × IsTooLong old.limit new.waiting × IfSome before (IsTooLong old.limit)
+Answers old new before after (Err (NoEol number)) = GivesNone old new before after × EndsReading old new number × IsCutOff old.limit new.waiting × IfSome before (IsCutOff old.limit)
 
 -- the count of failed reads rose where the device is named, and else is as it was
 abbrev pub CountsReads : Result (Option Line) ReadFault → ℕ → ℕ → Type 0

@@ -17,3 +17,6 @@ pub use memory::MemDesk;
 pub use reader::{LONGEST_LINE, LineReader};
 pub use real::RealDesk;
 pub use sending::{SendFault, send};
+
+#[cfg(test)]
+mod tests;

@@ -1,0 +1,116 @@
+ghost use Rattle.std.specs.Prelude.{◌≡◌, ◌≤◌, IsTrue};
+ghost use Rattle.vx_desk.specs.Slots.{IsReading};
+
+use crate::{Desk, Failed, LineReader, MemDesk, ReadFault, RealDesk, SendFault, Slot, send};
+use std::alloc::Global;
+use std::process::Abort;
+use std::test::Fail;
+use std::{fs, process};
+
+/// Asserts which line comes next.
+fn expect_line<D: Desk>(
+    rt: &impl Abort,
+    reader: &mut LineReader,
+    desk: &mut D,
+    number: u64,
+    bytes: &[u8],
+)
+    requires reading { IsReading reader.old.slot }
+    requires open { IsTrue (D.told desk.old reader.old.slot).is_open }
+    ensures slot { reader.new.slot ≡ reader.old.slot }
+    ensures open { IsTrue (D.told desk.new reader.old.slot).is_open }
+{
+    match reader.next(desk) {
+        Ok(Some(line)) => {
+            assert_eq!(rt; line.number, number);
+            assert_eq!(rt; reader.bytes(&line), bytes);
+        }
+        _ => panic!(rt; "no line"),
+    }
+}
+
+fn reads_pieces(rt: &impl Abort, alloc: Global, most: usize) -> Result<(), Fail>
+    requires { 1 ≤ most }
+{
+    let mut desk = MemDesk::new(alloc, 0, most, &[])?;
+    desk.add_file("feed", b"another text\n")?;
+    desk.add_file("feed", b"ab\n\ncdefg\nh")?;
+    desk.open(Slot::Feed, "feed")?;
+    let mut reader = LineReader::new(alloc, Slot::Feed, 5)?;
+    expect_line(rt, &mut reader, &mut desk, 1, b"ab");
+    expect_line(rt, &mut reader, &mut desk, 2, b"");
+    expect_line(rt, &mut reader, &mut desk, 3, b"cdefg");
+    assert_eq!(rt; reader.next(&mut desk), Err(ReadFault::NoEol { number: 4 }));
+    assert_eq!(rt; reader.next(&mut desk), Ok(None));
+    Ok(())
+}
+
+#[test]
+fn cuts_lines_however_reads_are_cut(rt: HostRuntime) -> Result<(), Fail> {
+    reads_pieces(&rt, rt.alloc(), 1)?;
+    reads_pieces(&rt, rt.alloc(), 2)?;
+    reads_pieces(&rt, rt.alloc(), 3)?;
+    reads_pieces(&rt, rt.alloc(), 7)
+}
+
+#[test]
+fn keeps_bytes_over_a_failed_read(rt: HostRuntime) -> Result<(), Fail> {
+    let mut desk = MemDesk::new(rt.alloc(), 0, 2, &[3])?;
+    desk.add_file("positions", b"abc\nd\n")?;
+    desk.open(Slot::Side, "positions")?;
+    let mut reader = LineReader::new(rt.alloc(), Slot::Side, 3)?;
+    assert_eq!(rt; reader.next(&mut desk), Err(ReadFault::Device));
+    expect_line(&rt, &mut reader, &mut desk, 1, b"abc");
+    expect_line(&rt, &mut reader, &mut desk, 2, b"d");
+    assert_eq!(rt; reader.next(&mut desk), Ok(None));
+    Ok(())
+}
+
+#[test]
+fn refuses_lines_past_the_limit(rt: HostRuntime) -> Result<(), Fail> {
+    let mut desk = MemDesk::new(rt.alloc(), 0, 100, &[])?;
+    desk.add_file("feed", b"abcd\nefghi\nj\n")?;
+    assert_eq!(rt; desk.open(Slot::Feed, "other"), Err(Failed));
+    desk.open(Slot::Feed, "feed")?;
+    let mut reader = LineReader::new(rt.alloc(), Slot::Feed, 4)?;
+    expect_line(&rt, &mut reader, &mut desk, 1, b"abcd");
+    assert_eq!(rt;
+        reader.next(&mut desk),
+        Err(ReadFault::LineTooLong { number: 2 })
+    );
+    assert_eq!(rt; reader.next(&mut desk), Ok(None));
+    Ok(())
+}
+
+#[test]
+fn sends_what_there_is_room_for(rt: HostRuntime) -> Result<(), Fail> {
+    let mut desk = MemDesk::new(rt.alloc(), 10, 4, &[])?;
+    assert_eq!(rt; send(&mut desk, Slot::Out, b"hello "), Ok(()));
+    assert_eq!(rt;
+        send(&mut desk, Slot::Out, b"world!"),
+        Err(SendFault::Device { sent: 4 })
+    );
+    assert_eq!(rt; desk.sent(Slot::Out), b"hello worl".as_slice());
+    assert_eq!(rt; desk.sent(Slot::Feed), b"".as_slice());
+    Ok(())
+}
+
+#[test]
+fn works_over_files(rt: HostRuntime) -> Result<(), Fail> {
+    let alloc = rt.alloc();
+    let name = format!(in alloc; "/tmp/vx_desk_{}.txt", process::id(rt.process()))?;
+    let mut desk = RealDesk::new(rt.clone()?);
+    assert_eq!(rt; desk.open(Slot::Feed, "/tmp/vx_desk/missing"), Err(Failed));
+    let mut desk = RealDesk::new(desk.finish());
+    desk.open(Slot::Certs, name.as_str())?;
+    send(&mut desk, Slot::Certs, b"one\ntwo\n")?;
+    send(&mut desk, Slot::Out, b"sent\n")?;
+    let mut desk = RealDesk::new(desk.finish());
+    desk.open(Slot::Side, name.as_str())?;
+    let mut reader = LineReader::new(alloc, Slot::Side, 256)?;
+    expect_line(&rt, &mut reader, &mut desk, 1, b"one");
+    expect_line(&rt, &mut reader, &mut desk, 2, b"two");
+    assert_eq!(rt; reader.next(&mut desk), Ok(None));
+    fs::remove_file(&desk.finish(), name.as_str())?;
+    Ok(())
+}
