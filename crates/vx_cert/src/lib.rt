@@ -1,5 +1,5 @@
 //! Certificates: what a published figure rests on, number by number, so that somebody else can
-//! test it. This crate has their types, and reads and writes them as lines of JSON.
+//! test it. This crate has their types, and reads them from lines of JSON.
 #![tactic(auto)]
 
 pub mod certificate;
@@ -9,6 +9,8 @@ mod form;
 pub mod limits;
 mod read;
 pub mod rows;
+#[cfg(test)]
+mod tests;
 
 pub use certificate::{CertBody, CertFigure, CertTerm, Certificate, Ends, Pair};
 pub use fault::CertFault;

@@ -1,3 +1,8 @@
+ghost use Rattle.std.specs.Prelude.{◌≡◌, ◌==◌};
+ghost use Rattle.std.specs.List.{list_any, list_all};
+ghost use Rattle.vx_formula.specs.Pair.{pair_of, is_both_live};
+ghost use Rattle.vx_check.specs.LevelTests.{is_pair_of_row, is_as_close, is_closest, zero_rate_forward, is_other_above, is_level, level_verdict};
+
 use crate::book::PlainBook;
 use vx_cert::{CertBody, Certificate, Pair};
 use vx_clock::Expiry;
@@ -36,12 +41,20 @@ fn is_tick_at(events: &PlainBook, line: u64, time: u16) -> bool {
 
 /// The tests of kind `k0` from the second on.
 fn check_level(events: &PlainBook, expiry: Expiry, pair: &Pair, k0: u32) -> Verdict {
-    let rows = events.rows(expiry);
     if !events.expiries().contains(&expiry) {
         Verdict::No(2)
     } else if events.rate(expiry) != Some(0) {
         Verdict::No(4)
-    } else if !is_closest_pair(rows, pair) {
+    } else {
+        check_rows(events.rows(expiry), pair, k0)
+    }
+}
+
+/// The tests of kind `k0` over the listed rows of its expiry.
+fn check_rows(rows: &[StrikeRow], pair: &Pair, k0: u32) -> Verdict
+    ensures { result ≡ level_verdict rows.now pair.now k0 }
+{
+    if !is_closest(rows, pair) {
         Verdict::No(7)
     } else if !is_level(rows, zero_rate_forward(pair), k0) {
         Verdict::No(9)
@@ -50,44 +63,79 @@ fn check_level(events: &PlainBook, expiry: Expiry, pair: &Pair, k0: u32) -> Verd
     }
 }
 
-/// The pair is that of a strike whose call and put are both live, and no other is closer, or as
-/// close at a lower strike.
-fn is_closest_pair(rows: &[StrikeRow], pair: &Pair) -> bool {
-    rows.iter().any(|row| is_live_pair(row, pair)) && rows.iter().all(|row| is_as_close(pair, row))
+fn is_closest(rows: &[StrikeRow], pair: &Pair) -> bool
+    ensures { result ≡ is_closest pair.now rows.now }
+{
+    has_pair(rows, pair) && are_as_close(rows, pair)
 }
 
-/// The call and the put of this row are live, and the pair is theirs.
-fn is_live_pair(row: &StrikeRow, pair: &Pair) -> bool {
+fn has_pair(rows: &[StrikeRow], pair: &Pair) -> bool
+    ensures { result ≡ list_any (is_pair_of_row pair.now) rows.now }
+{
+    rows.iter().any(|row| is_pair_of_row(pair, row))
+}
+
+fn are_as_close(rows: &[StrikeRow], pair: &Pair) -> bool
+    ensures { result ≡ list_all (is_as_close pair.now) rows.now }
+{
+    rows.iter().all(|row| is_as_close(pair, row))
+}
+
+fn is_pair_of_row(pair: &Pair, row: &StrikeRow) -> bool
+    ensures { result ≡ is_pair_of_row pair.now row.now }
+{
     is_both_live(row) && row.strike == pair.strike && half_difference(row) == i64::from(pair.d)
 }
 
-/// The pair comes before that of this row, or is it, or the row has none.
-fn is_as_close(pair: &Pair, row: &StrikeRow) -> bool {
+fn is_as_close(pair: &Pair, row: &StrikeRow) -> bool
+    ensures { result ≡ is_as_close pair.now row.now }
+{
     let stated = i64::from(pair.d).unsigned_abs();
     let other = half_difference(row).unsigned_abs();
     !is_both_live(row) || stated < other || (stated == other && pair.strike <= row.strike)
 }
 
-fn is_both_live(row: &StrikeRow) -> bool {
+fn is_both_live(row: &StrikeRow) -> bool
+    ensures { result ≡ is_both_live row.now }
+{
     row.put.live && row.call.live
 }
 
 /// The call's half price minus the put's.
-fn half_difference(row: &StrikeRow) -> i64 {
+fn half_difference(row: &StrikeRow) -> i64
+    ensures { result ≡ (pair_of row.now).d }
+{
     i64::from(row.call.half) - i64::from(row.put.half)
 }
 
 /// The forward at rate zero, in thousandths of a point: a half cent is five of them.
-fn zero_rate_forward(pair: &Pair) -> i64 {
+fn zero_rate_forward(pair: &Pair) -> i64
+    ensures { result ≡ zero_rate_forward pair.now }
+{
     i64::from(pair.strike) + 5 * i64::from(pair.d)
 }
 
-/// The strike is listed and at most the forward, and every listed strike above it is above the
-/// forward.
-fn is_level(rows: &[StrikeRow], forward: i64, k0: u32) -> bool {
+fn is_level(rows: &[StrikeRow], forward: i64, k0: u32) -> bool
+    ensures { result ≡ is_level forward k0 rows.now }
+{
+    is_listed(rows, k0) && i64::from(k0) <= forward && are_others_above(rows, forward, k0)
+}
+
+fn is_listed(rows: &[StrikeRow], k0: u32) -> bool
+    ensures { result ≡ list_any (λ row. row.strike == k0) rows.now }
+{
     rows.iter().any(|row| row.strike == k0)
-        && i64::from(k0) <= forward
-        && rows
-            .iter()
-            .all(|row| row.strike <= k0 || forward < i64::from(row.strike))
+}
+
+fn are_others_above(rows: &[StrikeRow], forward: i64, k0: u32) -> bool
+    ensures { result ≡ list_all (is_other_above forward k0) rows.now }
+{
+    rows.iter().all(|row| is_other_above(row, forward, k0))
+}
+
+/// The row's strike is above the forward, if it is above the level.
+fn is_other_above(row: &StrikeRow, forward: i64, k0: u32) -> bool
+    ensures { result ≡ is_other_above forward k0 row.now }
+{
+    row.strike <= k0 || forward < i64::from(row.strike)
 }
