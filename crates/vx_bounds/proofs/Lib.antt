@@ -5,3 +5,4 @@ pub mod Straddles
 pub mod Roots
 pub mod Steps
 pub mod Values
+pub mod Signed

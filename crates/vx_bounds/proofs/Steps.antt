@@ -6,7 +6,7 @@ use Rattle.std.proofs.Math.Nat.{div-le_of_le-mul, div-mul-le_self}
 use Rattle.std.specs.Int.{div_ceil}
 use Rattle.vx_bounds.specs.Exponential.{IsTerms, low_term, high_term, low_sum, high_sum}
 use Rattle.vx_bounds.proofs.TermLemmas.{ceil_below}
-use Rattle.vx_bounds.proofs.EndLemmas.{low_at_most, high_at_most, low_so_far, high_so_far}
+use Rattle.vx_bounds.proofs.EndLemmas.{low_first, high_first}
 use Rattle.vx_bounds.proofs.Loops.{Collects}
 
 -- the divisor is at least p
@@ -69,3 +69,31 @@ collects_more term sum k terms last added next l c e f =
       last_is = e;
       added_is = omega (arith, c.added_is)
     }
+
+pub collects_none : (term sum : ℕ → ℕ) (terms : List ℕ) (last added : ℕ) → length terms ≡ 14 → get_or terms 0 0 ≡ term 0 → last ≡ term 0 → added ≡ sum 0 → Collects term sum 0 terms last added
+collects_none term sum terms last added count first l a = record {
+  count = count;
+  each = λ j h. let e : j ≡ 0 = omega arith in let P : ℕ → Type 0 = λ i. get_or terms i 0 ≡ term i in subst P (sym e) first;
+  last_is = l;
+  added_is = a
+}
+
+pub terms_done : (term sum : ℕ → ℕ) (k : ℕ) (terms : List ℕ) (last added next : ℕ) → k ≡ 12 → Collects term sum k terms last added → next ≡ term 13 → IsTerms term (set terms 13 next)
+terms_done term sum k terms last added next e c n =
+    let count = c.count in
+    let room : 13 < length terms = omega arith in
+    record {
+      count = length-set terms 13 next ∙ c.count;
+      each = λ j h. elim (cases_lt j 13) [
+          inl l ↦ let other : j ≢ 13 = omega arith in get_or-set_other terms 13 j next 0 other ∙ c.each j (omega arith)
+        | inr l ↦ let m : j ≡ 13 = omega arith in let P : ℕ → Type 0 = λ i. get_or (set terms 13 next) i 0 ≡ term i in subst P (sym m) (get_or-set_same terms 13 next 0 room ∙ n)
+        ]
+    }
+
+pub low_sum_first : (u p q : ℕ) → low_sum u p q 0 ≡ u
+unfolding low_sum
+low_sum_first u p q = low_first u p q
+
+pub high_sum_first : (u p q : ℕ) → high_sum u p q 0 ≡ u
+unfolding high_sum
+high_sum_first u p q = high_first u p q

@@ -1,5 +1,5 @@
 -- The exponential's ends enclose the bracket at 12, and how they lie.
-use Rattle.std.proofs.Common.{◌≡◌, ◌∙◌, ℕ, zero, suc, ◌+◌, ◌-◌, ◌*◌, ◌^◌, ◌<◌, ◌≤◌, ℤ, pos, negsuc, ◌+ℤ◌, ◌-ℤ◌, ◌*ℤ◌, neg_ℤ, nat_abs, ◌≤ℤ◌, ◌<ℤ◌, refl, sym, ap, ap₂, subst, arith, le_refl, le_trans, mul-le-mul, mul-le-mul_left, mul-le-mul_right, mul-pos, pow-add, pow_pos}
+use Rattle.std.proofs.Common.{◌≡◌, ◌∙◌, ℕ, zero, suc, ◌+◌, ◌-◌, ◌*◌, ◌^◌, ◌<◌, ◌≤◌, ℤ, pos, negsuc, ◌+ℤ◌, ◌-ℤ◌, ◌*ℤ◌, neg_ℤ, nat_abs, ◌≤ℤ◌, ◌<ℤ◌, refl, sym, ap, ap₂, subst, arith, le_refl, le_trans, mul-le-mul, mul-le-mul_left, mul-le-mul_right, mul-pos, pow-add, pow_pos, List, get_or}
 use Rattle.std.proofs.Math.Nat.{lt_of_mul-lt-mul_right, le_of_mul-le-mul_right}
 use Rattle.std.proofs.Math.Pow.{pow_mono}
 use Rattle.std.proofs.lemmas.Int.{ints}
@@ -15,9 +15,9 @@ use Rattle.vx_bracket.specs.Cleared.{series_bottom, series_top, upper_top}
 use Rattle.vx_bracket.proofs.Series.{natural}
 use Rattle.vx_bracket.proofs.Members.{bracket_up, bracket_down, members_are_positive}
 use Rattle.vx_bracket.proofs.Terms.{partial_sum, sum_below, value_above, enclosed_up, enclosed_down}
-use Rattle.vx_bounds.specs.Exponential.{low_term, high_term, low_sum, high_sum, low_end, high_end, IsTightValue, exp_ends, signed_ends}
+use Rattle.vx_bounds.specs.Exponential.{IsTerms, low_term, high_term, low_sum, high_sum, low_end, high_end, IsTightValue, exp_ends, signed_ends}
 use Rattle.vx_bounds.proofs.TermLemmas.{low_step, high_step}
-use Rattle.vx_bounds.proofs.EndLemmas.{IsUnit, ends_order, ends_close, low_end_above, high_end_below, low_first, high_first}
+use Rattle.vx_bounds.proofs.EndLemmas.{IsUnit, last_term, ends_order, ends_close, low_end_above, high_end_below, low_first, high_first}
 
 pub unit_facts : (P : ℕ) → IsScale P → IsUnit (2 ^ P)
 unit_facts P h =
@@ -193,3 +193,30 @@ negative_is_good P p q s hq h =
     subst Q (sym (same_ends (signed_ends P (negsuc p) q) (record { lo = pos l; hi = pos k }) n.low_is n.high_is))
     (good_naturals P l k s high ordered narrow at_most)
 
+
+-- ---- what the code has found
+
+pub record IsFound (P p q low high last : ℕ) : Type 0 where
+  pub low_is : low ≡ low_end (2 ^ P) p q
+  pub high_is : high + 2 * last ≡ high_end (2 ^ P) p q
+  pub last_small : last ≤ 1
+  pub fits : high + 2 * last < 2 ^ 63
+  pub ordered : low ≤ high + 2 * last
+
+found_at : (P p q low high last : ℕ) → IsScale P → 0 < q → 8 * p ≤ q → low ≡ low_sum (2 ^ P) p q 12 → high ≡ high_sum (2 ^ P) p q 12 → last ≡ high_term (2 ^ P) p q 13 → IsFound P p q low high last
+unfolding low_end high_end
+found_at P p q low high last s hq h a b e =
+    let u = unit_facts P s in
+    let most = u.high in
+    let f : high + 2 * last ≡ high_sum (2 ^ P) p q 12 + 2 * high_term (2 ^ P) p q 13 = omega arith in
+    let small : high_term (2 ^ P) p q 13 ≤ 1 = last_term (2 ^ P) p q hq h most in
+    let below : 1000 * (high_sum (2 ^ P) p q 12 + 2 * high_term (2 ^ P) p q 13) ≤ 1134 * 2 ^ P = high_end_below (2 ^ P) p q hq h u in
+    let order : low_sum (2 ^ P) p q 12 ≤ high_sum (2 ^ P) p q 12 + 2 * high_term (2 ^ P) p q 13 = ends_order (2 ^ P) p q hq in
+    record { low_is = a; high_is = f; last_small = omega arith; fits = omega arith; ordered = omega arith }
+
+pub found : (P p q one low high : ℕ) (terms : List ℕ) → IsScale P → 0 < q → 8 * p ≤ q → one ≡ 2 ^ P → low ≡ low_sum one p q 12 → high ≡ high_sum one p q 12 → IsTerms (high_term one p q) terms → IsFound P p q low high (get_or terms 13 0)
+found P p q one low high terms s hq h e a b t =
+    found_at P p q low high (get_or terms 13 0) s hq h (a ∙ ap (λ u. low_sum u p q 12) e) (b ∙ ap (λ u. high_sum u p q 12) e) (t.each 13 (omega arith) ∙ ap (λ u. high_term u p q 13) e)
+
+pub units_small : (P one : ℕ) → IsScale P → one ≡ 2 ^ P → one ≤ 2 ^ 62
+units_small P one s e = let m : 2 ^ P ≤ 2 ^ 62 = pow_mono s.1 in omega arith

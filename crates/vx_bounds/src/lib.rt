@@ -5,9 +5,13 @@
 #![tactic(auto)]
 
 mod cents;
+mod exponential;
 mod root;
 
 pub use cents::Decision;
 pub use cents::decide;
 pub use cents::round_cents;
+pub use exponential::ExpRun;
+pub use exponential::exp_bounds;
+pub use exponential::exp_signed;
 pub use root::root_ends;
