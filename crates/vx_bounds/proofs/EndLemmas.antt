@@ -24,9 +24,9 @@ falls : (a b c : ℕ) → 2 ≤ c → c * a < b + c → a ≤ b
 falls zero b c two h = omega arith
 falls (suc a) b c two h = let m : 2 * suc a ≤ c * suc a = mul-le-mul_right (suc a) two in let n : c * a + c < b + c = omega arith in let k : 2 * a ≤ c * a = mul-le-mul_right a two in falls_more a b c n k
   where
-  falls_more : (a b c : ℕ) → c * a + c < b + c → 2 * a ≤ c * a → suc a ≤ b
-  falls_more zero b c n k = omega arith
-  falls_more (suc a) b c n k = omega arith
+    falls_more : (a b c : ℕ) → c * a + c < b + c → 2 * a ≤ c * a → suc a ≤ b
+    falls_more zero b c n k = omega arith
+    falls_more (suc a) b c n k = omega arith
 
 pub high_falls : (u p q k : ℕ) → 0 < q → 8 * p ≤ q → high_term u p q (suc k) ≤ high_term u p q k
 high_falls u p q k h s =

@@ -19,16 +19,16 @@ use Rattle.vx_bounds.specs.Root.{IsGreatestRoot, IsLeastRoot}
 pub root_bound : (r : ℕ) → r * r ≤ 10240000000000000000 → r ≤ 3200000000
 root_bound r h =
     elim (cases_lt 3200000000 r) [
-      inl l ↦ let m : 3200000001 * 3200000001 ≤ r * r = mul-le-mul l l in absurd (omega arith)
-    | inr l ↦ l
+      | inl l ↦ let m : 3200000001 * 3200000001 ≤ r * r = mul-le-mul l l in absurd (omega arith)
+      | inr l ↦ l
     ]
 
 -- the number below the least root of n, where the root of n is r or r + 1
 pub root_above_bound : (r n : ℕ) → r * r < n → n ≤ 10240000000000000000 → r + 1 ≤ 3200000000
 root_above_bound r n h l =
     elim (cases_lt r 3200000000) [
-      inl m ↦ omega arith
-    | inr m ↦ let k : 3200000000 * 3200000000 ≤ r * r = mul-le-mul m m in absurd (omega arith)
+      | inl m ↦ omega arith
+      | inr m ↦ let k : 3200000000 * 3200000000 ≤ r * r = mul-le-mul m m in absurd (omega arith)
     ]
 
 pub square_before : (r n : ℕ) → 0 < r → r * r ≤ n → (r - 1) * (r - 1) < n
@@ -72,7 +72,7 @@ greatest_of_floor u y n z h f low high =
     let one : pos 1 *ℤ u ≡ u = omega (arith, ints) in
     record {
       at_most = omega (arith, ints, mul_mono (signed_square z) n u some low);
-      next_above = omega (arith, ints, mul_mono (n +ℤ pos 1) (signed_square (z +ℤ pos 1)) u some next, add_mul n (pos 1) u)
+      next_above = omega (arith, ints, mul_mono (n +ℤ pos 1) (signed_square (z +ℤ pos 1)) u some next, add_mul n (pos 1) u);
     }
 
 pub least_of_ceiling : (u y n z : ℤ) → pos 0 <ℤ u → IsCeiling (pos 10000000000000000 *ℤ y) u n → n ≤ℤ signed_square z → signed_square (z -ℤ pos 1) <ℤ n → IsLeastRoot u y z
@@ -84,7 +84,7 @@ least_of_ceiling u y n z h c low high =
     let one : pos 1 *ℤ u ≡ u = omega (arith, ints) in
     record {
       at_least = omega (arith, ints, mul_mono n (signed_square z) u some low);
-      last_below = omega (arith, ints, mul_mono (signed_square (z -ℤ pos 1) +ℤ pos 1) n u some next, add_mul (signed_square (z -ℤ pos 1)) (pos 1) u)
+      last_below = omega (arith, ints, mul_mono (signed_square (z -ℤ pos 1) +ℤ pos 1) n u some next, add_mul (signed_square (z -ℤ pos 1)) (pos 1) u);
     }
 
 -- what the code answers, its numbers under casts
@@ -101,9 +101,9 @@ up_at : (n : ℤ) (r : ℕ) → n <ℤ pos 0 → 0 < r → nat_abs n ≤ r * r �
 up_at (pos n) r h p a b l = absurd (omega (arith, ints))
 up_at (negsuc n) r h p a b l = let e = below_of_up r (suc n) p a b in record { at_most = e.0; next_above = e.1; bound = small r l }
   where
-  small : (r : ℕ) → r ≤ 3200000000 → nat_abs (neg_ℤ (pos r)) ≤ 3200000000
-  small zero l = l
-  small (suc r) l = l
+    small : (r : ℕ) → r ≤ 3200000000 → nat_abs (neg_ℤ (pos r)) ≤ 3200000000
+    small zero l = l
+    small (suc r) l = l
 
 pub down_answer : (n n' z : ℤ) (r : ℕ) → n' ≡ n → pos 0 ≤ℤ n → z ≡ pos r → r * r ≤ nat_abs n' → nat_abs n' < (r + 1) * (r + 1) → r ≤ 3200000000 → IsRootBelow n z
 down_answer n n' z r e h f a b l =
@@ -133,10 +133,10 @@ above_answer n n' z z' e f a b l =
     let r = above_of_below n z (subst P e a) (subst Q e b) in
     subst R (sym f) (record { at_least = r.0; last_below = r.1; bound = same z l })
   where
-  same : (z : ℤ) → nat_abs z ≤ 3200000000 → nat_abs (neg_ℤ z) ≤ 3200000000
-  same (pos zero) l = l
-  same (pos (suc z)) l = l
-  same (negsuc z) l = l
+    same : (z : ℤ) → nat_abs z ≤ 3200000000 → nat_abs (neg_ℤ z) ≤ 3200000000
+    same (pos zero) l = l
+    same (pos (suc z)) l = l
+    same (negsuc z) l = l
 
 -- the dividend of the root: 10^16 times an end within 1024 units
 pub dividend_fits : (u x k x' : ℤ) → u ≤ℤ pos (2 ^ 62) → k ≡ pos 10000000000000000 → x' ≡ x → neg_ℤ (pos 1024 *ℤ u) ≤ℤ x → x ≤ℤ (pos 1024 *ℤ u) → FitsSigned w128 (k *ℤ x')

@@ -44,7 +44,7 @@ pub record IsNegativeFound (P : ℕ) (p : ℤ) (q : ℕ) (z w : ℤ) : Type 0 wh
   pub high_is : w ≡ (signed_ends P p q).hi
 
 pub negative_found : (P : ℕ) (p : ℤ) (q n : ℕ) (square hi lo z w : ℤ) → p <ℤ pos 0 → n ≡ nat_abs p → square ≡ pos (2 ^ P * 2 ^ P)
-  → hi ≡ pos (high_end (2 ^ P) n q) → lo ≡ pos (low_end (2 ^ P) n q) → pos 0 <ℤ hi → pos 0 <ℤ lo → IsFloor square hi z → IsCeiling square lo w → IsNegativeFound P p q z w
+    → hi ≡ pos (high_end (2 ^ P) n q) → lo ≡ pos (low_end (2 ^ P) n q) → pos 0 <ℤ hi → pos 0 <ℤ lo → IsFloor square hi z → IsCeiling square lo w → IsNegativeFound P p q z w
 negative_found P (pos p) q n square hi lo z w h e s a b ph pl f c = absurd (omega (arith, ints))
 negative_found P (negsuc p) q n square hi lo z w h e s a b ph pl f c =
     let a' : hi ≡ pos (high_end (2 ^ P) (suc p) q) = a ∙ ap (λ m. pos (high_end (2 ^ P) m q)) e in
@@ -52,7 +52,7 @@ negative_found P (negsuc p) q n square hi lo z w h e s a b ph pl f c =
     let Q : ℤ → Type 0 = λ x. pos 0 <ℤ x in
     record {
       low_is = floor_found (pos (2 ^ P * 2 ^ P)) (pos (high_end (2 ^ P) (suc p) q)) z (subst Q a' ph) (floor_given (pos (2 ^ P * 2 ^ P)) (pos (high_end (2 ^ P) (suc p) q)) square hi z s a' f);
-      high_is = ceiling_found (pos (2 ^ P * 2 ^ P)) (pos (low_end (2 ^ P) (suc p) q)) w (subst Q b' pl) (ceiling_given (pos (2 ^ P * 2 ^ P)) (pos (low_end (2 ^ P) (suc p) q)) square lo w s b' c)
+      high_is = ceiling_found (pos (2 ^ P * 2 ^ P)) (pos (low_end (2 ^ P) (suc p) q)) w (subst Q b' pl) (ceiling_given (pos (2 ^ P * 2 ^ P)) (pos (low_end (2 ^ P) (suc p) q)) square lo w s b' c);
     }
 
 pub positive_high : (u : ℤ) (x : Ends) (h : ℤ) → pos 0 <ℤ u → u ≤ℤ x.lo → x.lo ≤ℤ x.hi → h ≡ x.hi → pos 0 <ℤ h

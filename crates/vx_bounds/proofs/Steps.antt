@@ -34,8 +34,8 @@ high_fits t p q k hq h =
     let c : div_ceil (t * p) d * d < t * p + d = ceil_below (t * p) d (divisor_positive q k hq) in
     below (div_ceil (t * p) d) (t + 1) d (omega arith)
   where
-  below : (a b d : ℕ) → a * d < b * d → a ≤ b
-  below a b d h = elim (cases_lt b a) [ inl l ↦ let m : b * d ≤ a * d = mul-le-mul_right d (le_of_lt l) in absurd (omega arith) | inr l ↦ l ]
+    below : (a b d : ℕ) → a * d < b * d → a ≤ b
+    below a b d h = elim (cases_lt b a) [ inl l ↦ let m : b * d ≤ a * d = mul-le-mul_right d (le_of_lt l) in absurd (omega arith) | inr l ↦ l ]
 
 -- ---- the loops
 
@@ -56,18 +56,18 @@ unfolding high_sum
 high_sum_next u p q k = rw (add-one k) refl
 
 pub collects_more : (term sum : ℕ → ℕ) (k : ℕ) (terms : List ℕ) (last added next : ℕ) → k < 13 → Collects term sum k terms last added → next ≡ term (k + 1) → sum (k + 1) ≡ sum k + term (k + 1)
-  → Collects term sum (k + 1) (set terms (k + 1) next) next (added + next)
+    → Collects term sum (k + 1) (set terms (k + 1) next) next (added + next)
 collects_more term sum k terms last added next l c e f =
     let count = c.count in
     let room : k + 1 < length terms = omega arith in
     record {
       count = length-set terms (k + 1) next ∙ c.count;
       each = λ j h. elim (eq-or-lt_of_le h) [
-          inl m ↦ rw m (get_or-set_same terms (k + 1) next 0 room ∙ e)
+        | inl m ↦ rw m (get_or-set_same terms (k + 1) next 0 room ∙ e)
         | inr m ↦ let other : j ≢ k + 1 = omega arith in get_or-set_other terms (k + 1) j next 0 other ∙ c.each j (omega arith)
-        ];
+      ];
       last_is = e;
-      added_is = omega (arith, c.added_is)
+      added_is = omega (arith, c.added_is);
     }
 
 pub collects_none : (term sum : ℕ → ℕ) (terms : List ℕ) (last added : ℕ) → length terms ≡ 14 → get_or terms 0 0 ≡ term 0 → last ≡ term 0 → added ≡ sum 0 → Collects term sum 0 terms last added
@@ -75,7 +75,7 @@ collects_none term sum terms last added count first l a = record {
   count = count;
   each = λ j h. let e : j ≡ 0 = omega arith in let P : ℕ → Type 0 = λ i. get_or terms i 0 ≡ term i in subst P (sym e) first;
   last_is = l;
-  added_is = a
+  added_is = a;
 }
 
 pub terms_done : (term sum : ℕ → ℕ) (k : ℕ) (terms : List ℕ) (last added next : ℕ) → k ≡ 12 → Collects term sum k terms last added → next ≡ term 13 → IsTerms term (set terms 13 next)
@@ -85,9 +85,9 @@ terms_done term sum k terms last added next e c n =
     record {
       count = length-set terms 13 next ∙ c.count;
       each = λ j h. elim (cases_lt j 13) [
-          inl l ↦ let other : j ≢ 13 = omega arith in get_or-set_other terms 13 j next 0 other ∙ c.each j (omega arith)
+        | inl l ↦ let other : j ≢ 13 = omega arith in get_or-set_other terms 13 j next 0 other ∙ c.each j (omega arith)
         | inr l ↦ let m : j ≡ 13 = omega arith in let P : ℕ → Type 0 = λ i. get_or (set terms 13 next) i 0 ≡ term i in subst P (sym m) (get_or-set_same terms 13 next 0 room ∙ n)
-        ]
+      ];
     }
 
 pub low_sum_first : (u p q : ℕ) → low_sum u p q 0 ≡ u

@@ -9,16 +9,16 @@ use Rattle.vx_bounds.specs.Exponential.{low_term, high_term, low_sum, high_sum, 
 pub ceil_above : (x y : ℕ) → 0 < y → x ≤ div_ceil x y * y
 ceil_above x y h = let e = div-add-mod' x y in let r : x % y < y = mod-lt x h in ceil_cases x y (x / y) (x % y) e r
   where
-  ceil_cases : (x y d r : ℕ) → d * y + r ≡ x → r < y → x ≤ (d + min 1 r) * y
-  ceil_cases x y d zero e l = omega arith
-  ceil_cases x y d (suc r) e l = let one : min 1 (suc r) ≡ 1 = omega arith in rw one (omega arith)
+    ceil_cases : (x y d r : ℕ) → d * y + r ≡ x → r < y → x ≤ (d + min 1 r) * y
+    ceil_cases x y d zero e l = omega arith
+    ceil_cases x y d (suc r) e l = let one : min 1 (suc r) ≡ 1 = omega arith in rw one (omega arith)
 
 pub ceil_below : (x y : ℕ) → 0 < y → div_ceil x y * y < x + y
 ceil_below x y h = let e = div-add-mod' x y in let r : x % y < y = mod-lt x h in ceil_cases x y (x / y) (x % y) e r
   where
-  ceil_cases : (x y d r : ℕ) → d * y + r ≡ x → r < y → (d + min 1 r) * y < x + y
-  ceil_cases x y d zero e l = omega arith
-  ceil_cases x y d (suc r) e l = let one : min 1 (suc r) ≡ 1 = omega arith in rw one (omega arith)
+    ceil_cases : (x y d r : ℕ) → d * y + r ≡ x → r < y → (d + min 1 r) * y < x + y
+    ceil_cases x y d zero e l = omega arith
+    ceil_cases x y d (suc r) e l = let one : min 1 (suc r) ≡ 1 = omega arith in rw one (omega arith)
 
 divisor_positive : (q k : ℕ) → 0 < q → 0 < q * suc k
 divisor_positive q k h = mul-pos h (omega arith)
@@ -61,8 +61,8 @@ pub first_gap : (u p q : ℕ) → 0 < q → high_term u p q 1 ≤ low_term u p q
 unfolding high_term low_term
 first_gap u p q h = gap_one (high_term u p q 1) (low_term u p q 1) (q * 1) (high_term u p q 0 * p) (low_term u p q 0 * p) (high_next u p q 0 h) (low_next u p q 0 h) (same u p q)
   where
-  same : (u p q : ℕ) → high_term u p q 0 * p ≤ low_term u p q 0 * p
-  same u p q = le_refl (u * p)
+    same : (u p q : ℕ) → high_term u p q 0 * p ≤ low_term u p q 0 * p
+    same u p q = le_refl (u * p)
 
 pub next_gap : (u p q k : ℕ) → 0 < q → 8 * p ≤ q → high_term u p q k ≤ low_term u p q k + 2 → high_term u p q (suc k) ≤ low_term u p q (suc k) + 2
 next_gap u p q k h s g =

@@ -82,7 +82,7 @@ exp_is_good P p q s hq h =
       narrow = omega (arith, ints);
       height = omega (arith, ints);
       quarter = omega (arith, ints);
-      nonneg = omega (arith, ints)
+      nonneg = omega (arith, ints);
     }
 
 -- ---- the reciprocal of the ends A and B, with u ≤ A ≤ B ≤ A + 25
@@ -116,8 +116,8 @@ reciprocal_close u A B l h hu a b ab r =
     let small : l ≤ u = reciprocal_low u A B l h (omega arith) a ab r in
     not_more h (l + 27) A (omega arith)
   where
-  reciprocal_low : (u A B l h : ℕ) → 0 < u → u ≤ A → A ≤ B → IsReciprocal u A B l h → l ≤ u
-  reciprocal_low u A B l h hu a ab r = le_trans (reciprocal_order u A B l h (omega arith) ab r) (reciprocal_high u A B l h hu a r)
+    reciprocal_low : (u A B l h : ℕ) → 0 < u → u ≤ A → A ≤ B → IsReciprocal u A B l h → l ≤ u
+    reciprocal_low u A B l h hu a ab r = le_trans (reciprocal_order u A B l h (omega arith) ab r) (reciprocal_high u A B l h hu a r)
 
 pub record HasReciprocal (u A B : ℕ) (x : Ends) : Type 0 where
   pub l : ℕ
@@ -170,7 +170,7 @@ good_naturals P l k s high ordered narrow at_most = record {
   narrow = omega (arith, ints);
   height = omega (arith, ints);
   quarter = omega (arith, ints);
-  nonneg = omega (arith, ints)
+  nonneg = omega (arith, ints);
 }
 
 pub negative_is_good : (P p q : ℕ) → IsScale P → 0 < q → 8 * suc p ≤ q → IsTightValue P 27 (signed_ends P (negsuc p) q)
@@ -192,7 +192,6 @@ negative_is_good P p q s hq h =
     let Q : Ends → Type 0 = λ x. IsTightValue P 27 x in
     subst Q (sym (same_ends (signed_ends P (negsuc p) q) (record { lo = pos l; hi = pos k }) n.low_is n.high_is))
     (good_naturals P l k s high ordered narrow at_most)
-
 
 -- ---- what the code has found
 

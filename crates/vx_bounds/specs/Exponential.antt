@@ -43,7 +43,7 @@ abbrev pub signed_ends : ℕ → ℤ → ℕ → Ends
 signed_ends P (pos p) q = exp_ends P p q
 signed_ends P (negsuc p) q = record {
   lo = floor_of (pos (2 ^ P * 2 ^ P)) (pos (high_end (2 ^ P) (suc p) q));
-  hi = ceiling_of (pos (2 ^ P * 2 ^ P)) (pos (low_end (2 ^ P) (suc p) q))
+  hi = ceiling_of (pos (2 ^ P * 2 ^ P)) (pos (low_end (2 ^ P) (suc p) q));
 }
 
 -- what every bounded exponential keeps: its ends are at most w units apart, and it stays at most 1.134, so at most 5/4

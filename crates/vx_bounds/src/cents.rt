@@ -29,7 +29,11 @@ pub fn decide(lo: i64, hi: i64) -> Decision
     ensures { Decides lo hi result }
 {
     if lo < 0 {
-        return if hi < 0 { Decision::Negative } else { Decision::Straddle };
+        return if hi < 0 {
+            Decision::Negative
+        } else {
+            Decision::Straddle
+        };
     }
     let figure = round_cents(lo as u64);
     if figure == round_cents(hi as u64) {

@@ -8,10 +8,6 @@ mod cents;
 mod exponential;
 mod root;
 
-pub use cents::Decision;
-pub use cents::decide;
-pub use cents::round_cents;
-pub use exponential::ExpRun;
-pub use exponential::exp_bounds;
-pub use exponential::exp_signed;
+pub use cents::{Decision, decide, round_cents};
+pub use exponential::{ExpRun, exp_bounds, exp_signed};
 pub use root::root_ends;

@@ -18,7 +18,7 @@ high_terms-high-requires g c =
 pub overflow_mul-end : goal.overflow_mul-end
 overflow_mul-end g c =
     let f = found g.row.P c.args.p c.args.q c.units-one.result c.low_terms-low.result.sum c.high_terms-high.result.sum c.high_terms-high.result.terms
-      c.requires.scale c.requires.divisor.0 c.requires.small c.units-one.ensures c.low_terms-low.ensures.sum c.high_terms-high.ensures.sum c.high_terms-high.ensures.terms in
+    c.requires.scale c.requires.divisor.0 c.requires.small c.units-one.ensures c.low_terms-low.ensures.sum c.high_terms-high.ensures.sum c.high_terms-high.ensures.terms in
     let last = f.last_small in
     let fits = f.fits in
     let order = f.ordered in
@@ -29,7 +29,7 @@ overflow_mul-end g c =
 pub overflow_add-end : goal.overflow_add-end
 overflow_add-end g c =
     let f = found g.row.P c.args.p c.args.q c.units-one.result c.low_terms-low.result.sum c.high_terms-high.result.sum c.high_terms-high.result.terms
-      c.requires.scale c.requires.divisor.0 c.requires.small c.units-one.ensures c.low_terms-low.ensures.sum c.high_terms-high.ensures.sum c.high_terms-high.ensures.terms in
+    c.requires.scale c.requires.divisor.0 c.requires.small c.units-one.ensures c.low_terms-low.ensures.sum c.high_terms-high.ensures.sum c.high_terms-high.ensures.terms in
     let last = f.last_small in
     let fits = f.fits in
     let order = f.ordered in
@@ -40,7 +40,7 @@ overflow_add-end g c =
 pub new-value-requires : goal.new-value-requires
 new-value-requires g c =
     let f = found g.row.P c.args.p c.args.q c.units-one.result c.low_terms-low.result.sum c.high_terms-high.result.sum c.high_terms-high.result.terms
-      c.requires.scale c.requires.divisor.0 c.requires.small c.units-one.ensures c.low_terms-low.ensures.sum c.high_terms-high.ensures.sum c.high_terms-high.ensures.terms in
+    c.requires.scale c.requires.divisor.0 c.requires.small c.units-one.ensures c.low_terms-low.ensures.sum c.high_terms-high.ensures.sum c.high_terms-high.ensures.terms in
     let last = f.last_small in
     let fits = f.fits in
     let order = f.ordered in
@@ -59,7 +59,7 @@ returns-clause-high_terms g c =
 pub returns-clause-value : goal.returns-clause-value
 returns-clause-value g c =
     let f = found g.row.P c.args.p c.args.q c.units-one.result c.low_terms-low.result.sum c.high_terms-high.result.sum c.high_terms-high.result.terms
-      c.requires.scale c.requires.divisor.0 c.requires.small c.units-one.ensures c.low_terms-low.ensures.sum c.high_terms-high.ensures.sum c.high_terms-high.ensures.terms in
+    c.requires.scale c.requires.divisor.0 c.requires.small c.units-one.ensures c.low_terms-low.ensures.sum c.high_terms-high.ensures.sum c.high_terms-high.ensures.terms in
     let last = f.last_small in
     let fits = f.fits in
     let order = f.ordered in

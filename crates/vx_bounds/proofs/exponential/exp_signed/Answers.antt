@@ -28,7 +28,7 @@ returns-then-p-ge0 g c =
       value = value;
       encloses = rw value (λ h m. signed_encloses g.row.P c.args.p c.args.q h c.requires.divisor.0 m);
       bounds = subst T (sym value) (signed_is_good g.row.P c.args.p c.args.q c.requires.scale c.requires.divisor.0 c.requires.small);
-      at_least_one = λ _. c.exp_bounds-run.ensures.at_least_one
+      at_least_one = λ _. c.exp_bounds-run.ensures.at_least_one;
     }
 
 pub overflow_mul-square : goal.overflow_mul-square
@@ -53,17 +53,20 @@ new-value-requires g c =
     let least = c.exp_bounds-run.ensures.at_least_one in
     let ordered = c.exp_bounds-run.ensures.bounds.interval.ordered in
     let hi : cast c.hi.result ≡ pos (high_end (2 ^ g.row.P) c.unsigned_abs.result c.args.q) =
-      cast_is c.hi.result _ c.hi.type_inv (c.hi.ensures.value ∙ ap (λ (x : Ends). x.hi) c.exp_bounds-run.ensures.value) in
+    cast_is c.hi.result _ c.hi.type_inv (c.hi.ensures.value ∙ ap (λ (x : Ends). x.hi) c.exp_bounds-run.ensures.value) in
     let lo : cast c.lo.result ≡ pos (low_end (2 ^ g.row.P) c.unsigned_abs.result c.args.q) =
-      cast_is c.lo.result _ c.lo.type_inv (c.lo.ensures.value ∙ ap (λ (x : Ends). x.lo) c.exp_bounds-run.ensures.value) in
+    cast_is c.lo.result _ c.lo.type_inv (c.lo.ensures.value ∙ ap (λ (x : Ends). x.lo) c.exp_bounds-run.ensures.value) in
     let hi_plain : cast c.hi.result ≡ c.exp_bounds-run.result.value.hi = cast_is c.hi.result _ c.hi.type_inv c.hi.ensures.value in
     let lo_plain : cast c.lo.result ≡ c.exp_bounds-run.result.value.lo = cast_is c.lo.result _ c.lo.type_inv c.lo.ensures.value in
     let f = negative_found g.row.P c.args.p c.args.q c.unsigned_abs.result _ _ _ c.div_floor-low.result c.div_ceil-high.result sign n
-      (square_is g.row.P (cast c.power_of_two-one.result) c.requires.scale (cast_is c.power_of_two-one.result (unit g.row.P) c.power_of_two-one.type_inv c.power_of_two-one.ensures)) hi lo (positive_high (unit g.row.P) c.exp_bounds-run.result.value (cast c.hi.result) one least ordered hi_plain) (positive_low (unit g.row.P) c.exp_bounds-run.result.value (cast c.lo.result) one least lo_plain) c.div_floor-low.ensures c.div_ceil-high.ensures in
-    let i = (signed_is_good g.row.P c.args.p c.args.q c.requires.scale c.requires.divisor.0 c.requires.small).interval in
-    ( search rules
-    , ( c.requires.scale
-      , pair_in_range c.div_floor-low.result c.div_ceil-high.result _ _ c.div_floor-low.type_inv c.div_ceil-high.type_inv f.low_is f.high_is (i.in_range.low, i.ordered, i.in_range.high) ) )
+    (square_is g.row.P (cast c.power_of_two-one.result) c.requires.scale (cast_is c.power_of_two-one.result (unit g.row.P) c.power_of_two-one.type_inv c.power_of_two-one.ensures)) hi lo (positive_high (unit g.row.P) c.exp_bounds-run.result.value (cast c.hi.result) one least ordered hi_plain) (positive_low (unit g.row.P) c.exp_bounds-run.result.value (cast c.lo.result) one least lo_plain) c.div_floor-low.ensures c.div_ceil-high.ensures in
+    let i = (signed_is_good g.row.P c.args.p c.args.q c.requires.scale c.requires.divisor.0 c.requires.small).interval in (
+      search rules,
+      (
+        c.requires.scale,
+        pair_in_range c.div_floor-low.result c.div_ceil-high.result _ _ c.div_floor-low.type_inv c.div_ceil-high.type_inv f.low_is f.high_is (i.in_range.low, i.ordered, i.in_range.high),
+      ),
+    )
 
 pub returns-clause-value : goal.returns-clause-value
 returns-clause-value g c =
@@ -73,13 +76,13 @@ returns-clause-value g c =
     let least = c.exp_bounds-run.ensures.at_least_one in
     let ordered = c.exp_bounds-run.ensures.bounds.interval.ordered in
     let hi : cast c.hi.result ≡ pos (high_end (2 ^ g.row.P) c.unsigned_abs.result c.args.q) =
-      cast_is c.hi.result _ c.hi.type_inv (c.hi.ensures.value ∙ ap (λ (x : Ends). x.hi) c.exp_bounds-run.ensures.value) in
+    cast_is c.hi.result _ c.hi.type_inv (c.hi.ensures.value ∙ ap (λ (x : Ends). x.hi) c.exp_bounds-run.ensures.value) in
     let lo : cast c.lo.result ≡ pos (low_end (2 ^ g.row.P) c.unsigned_abs.result c.args.q) =
-      cast_is c.lo.result _ c.lo.type_inv (c.lo.ensures.value ∙ ap (λ (x : Ends). x.lo) c.exp_bounds-run.ensures.value) in
+    cast_is c.lo.result _ c.lo.type_inv (c.lo.ensures.value ∙ ap (λ (x : Ends). x.lo) c.exp_bounds-run.ensures.value) in
     let hi_plain : cast c.hi.result ≡ c.exp_bounds-run.result.value.hi = cast_is c.hi.result _ c.hi.type_inv c.hi.ensures.value in
     let lo_plain : cast c.lo.result ≡ c.exp_bounds-run.result.value.lo = cast_is c.lo.result _ c.lo.type_inv c.lo.ensures.value in
     let f = negative_found g.row.P c.args.p c.args.q c.unsigned_abs.result _ _ _ c.div_floor-low.result c.div_ceil-high.result sign n
-      (square_is g.row.P (cast c.power_of_two-one.result) c.requires.scale (cast_is c.power_of_two-one.result (unit g.row.P) c.power_of_two-one.type_inv c.power_of_two-one.ensures)) hi lo (positive_high (unit g.row.P) c.exp_bounds-run.result.value (cast c.hi.result) one least ordered hi_plain) (positive_low (unit g.row.P) c.exp_bounds-run.result.value (cast c.lo.result) one least lo_plain) c.div_floor-low.ensures c.div_ceil-high.ensures in
+    (square_is g.row.P (cast c.power_of_two-one.result) c.requires.scale (cast_is c.power_of_two-one.result (unit g.row.P) c.power_of_two-one.type_inv c.power_of_two-one.ensures)) hi lo (positive_high (unit g.row.P) c.exp_bounds-run.result.value (cast c.hi.result) one least ordered hi_plain) (positive_low (unit g.row.P) c.exp_bounds-run.result.value (cast c.lo.result) one least lo_plain) c.div_floor-low.ensures c.div_ceil-high.ensures in
     c.new-value.ensures.ends ∙ same_ends _ _ (cast_is c.div_floor-low.result _ c.div_floor-low.type_inv f.low_is) (cast_is c.div_ceil-high.result _ c.div_ceil-high.type_inv f.high_is)
 
 pub returns-clause-encloses : goal.returns-clause-encloses

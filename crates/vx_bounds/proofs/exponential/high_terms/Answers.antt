@@ -18,7 +18,7 @@ next_high-term-requires c =
 pub overflow_add-sum : goal.overflow_add-sum
 overflow_add-sum c =
     let next : c.next_high-term.result ≡ high_term c.args.first c.args.p c.args.q (c.loop-k.k + 1) =
-      c.next_high-term.ensures ∙ ap (λ z. div_ceil (z * c.args.p) (c.args.q * (c.loop-k.k + 1))) c.loop-k.invariant.last_is ∙ sym (high_next_is c.args.first c.args.p c.args.q c.loop-k.k) in
+    c.next_high-term.ensures ∙ ap (λ z. div_ceil (z * c.args.p) (c.args.q * (c.loop-k.k + 1))) c.loop-k.invariant.last_is ∙ sym (high_next_is c.args.first c.args.p c.args.q c.loop-k.k) in
     let added = c.loop-k.invariant.added_is in
     let more = high_sum_next c.args.first c.args.p c.args.q c.loop-k.k in
     let so_far = high_so_far c.args.first c.args.p c.args.q (c.loop-k.k + 1) c.requires.divisor.0 c.requires.small in
@@ -28,7 +28,7 @@ overflow_add-sum c =
 pub loop-k-preserved : goal.loop-k-preserved
 loop-k-preserved c =
     let next : c.next_high-term.result ≡ high_term c.args.first c.args.p c.args.q (c.loop-k.k + 1) =
-      c.next_high-term.ensures ∙ ap (λ z. div_ceil (z * c.args.p) (c.args.q * (c.loop-k.k + 1))) c.loop-k.invariant.last_is ∙ sym (high_next_is c.args.first c.args.p c.args.q c.loop-k.k) in
+    c.next_high-term.ensures ∙ ap (λ z. div_ceil (z * c.args.p) (c.args.q * (c.loop-k.k + 1))) c.loop-k.invariant.last_is ∙ sym (high_next_is c.args.first c.args.p c.args.q c.loop-k.k) in
     collects_more _ _ _ _ _ _ _ (omega arith) c.loop-k.invariant next (high_sum_next c.args.first c.args.p c.args.q c.loop-k.k)
 
 pub next_high-requires : goal.next_high-requires
@@ -41,8 +41,8 @@ returns c =
     let last : c.loop-k.k ≡ 12 = omega arith in
     let e = c.loop-k.invariant.last_is ∙ ap (high_term c.args.first c.args.p c.args.q) last in
     let next : c.next_high.result ≡ high_term c.args.first c.args.p c.args.q 13 =
-      c.next_high.ensures ∙ ap (λ z. div_ceil (z * c.args.p) (c.args.q * 13)) e ∙ sym (high_next_is c.args.first c.args.p c.args.q 12) in
+    c.next_high.ensures ∙ ap (λ z. div_ceil (z * c.args.p) (c.args.q * 13)) e ∙ sym (high_next_is c.args.first c.args.p c.args.q 12) in
     record {
       terms = terms_done _ _ _ _ _ _ _ last c.loop-k.invariant next;
-      sum = c.loop-k.invariant.added_is ∙ ap (high_sum c.args.first c.args.p c.args.q) last
+      sum = c.loop-k.invariant.added_is ∙ ap (high_sum c.args.first c.args.p c.args.q) last;
     }

@@ -18,7 +18,7 @@ next_low-term-requires c =
 pub overflow_add-sum : goal.overflow_add-sum
 overflow_add-sum c =
     let next : c.next_low-term.result ≡ low_term c.args.first c.args.p c.args.q (c.loop-k.k + 1) =
-      c.next_low-term.ensures ∙ ap (λ z. z * c.args.p / (c.args.q * (c.loop-k.k + 1))) c.loop-k.invariant.last_is ∙ sym (low_next_is c.args.first c.args.p c.args.q c.loop-k.k) in
+    c.next_low-term.ensures ∙ ap (λ z. z * c.args.p / (c.args.q * (c.loop-k.k + 1))) c.loop-k.invariant.last_is ∙ sym (low_next_is c.args.first c.args.p c.args.q c.loop-k.k) in
     let added = c.loop-k.invariant.added_is in
     let more = low_sum_next c.args.first c.args.p c.args.q c.loop-k.k in
     let so_far = low_so_far c.args.first c.args.p c.args.q (c.loop-k.k + 1) c.requires.divisor.0 c.requires.small in
@@ -28,7 +28,7 @@ overflow_add-sum c =
 pub loop-k-preserved : goal.loop-k-preserved
 loop-k-preserved c =
     let next : c.next_low-term.result ≡ low_term c.args.first c.args.p c.args.q (c.loop-k.k + 1) =
-      c.next_low-term.ensures ∙ ap (λ z. z * c.args.p / (c.args.q * (c.loop-k.k + 1))) c.loop-k.invariant.last_is ∙ sym (low_next_is c.args.first c.args.p c.args.q c.loop-k.k) in
+    c.next_low-term.ensures ∙ ap (λ z. z * c.args.p / (c.args.q * (c.loop-k.k + 1))) c.loop-k.invariant.last_is ∙ sym (low_next_is c.args.first c.args.p c.args.q c.loop-k.k) in
     collects_more _ _ _ _ _ _ _ (omega arith) c.loop-k.invariant next (low_sum_next c.args.first c.args.p c.args.q c.loop-k.k)
 
 pub next_low-requires : goal.next_low-requires
@@ -41,8 +41,8 @@ returns c =
     let last : c.loop-k.k ≡ 12 = omega arith in
     let e = c.loop-k.invariant.last_is ∙ ap (low_term c.args.first c.args.p c.args.q) last in
     let next : c.next_low.result ≡ low_term c.args.first c.args.p c.args.q 13 =
-      c.next_low.ensures ∙ ap (λ z. z * c.args.p / (c.args.q * 13)) e ∙ sym (low_next_is c.args.first c.args.p c.args.q 12) in
+    c.next_low.ensures ∙ ap (λ z. z * c.args.p / (c.args.q * 13)) e ∙ sym (low_next_is c.args.first c.args.p c.args.q 12) in
     record {
       terms = terms_done _ _ _ _ _ _ _ last c.loop-k.invariant next;
-      sum = c.loop-k.invariant.added_is ∙ ap (low_sum c.args.first c.args.p c.args.q) last
+      sum = c.loop-k.invariant.added_is ∙ ap (low_sum c.args.first c.args.p c.args.q) last;
     }

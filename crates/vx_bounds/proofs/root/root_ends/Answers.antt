@@ -48,7 +48,7 @@ signed_root_below-requires g c =
     let hi_high : c.args.x.now.hi ≤ℤ (pos 1024 *ℤ unit g.row.P) = c.requires.high in
     let hi_low : neg_ℤ (pos 1024 *ℤ unit g.row.P) ≤ℤ c.args.x.now.hi = omega (arith, ints) in
     let f = floor_given (pos 10000000000000000 *ℤ c.args.x.now.lo) (unit g.row.P) (cast (pos 10000000000000000 *ℤ cast c.lo-lo.result)) (cast c.power_of_two-one.result) c.div_floor-low.result
-      (dividend_is (unit g.row.P) c.args.x.now.lo (cast c.lo-lo.result) big (cast_is c.lo-lo.result c.args.x.now.lo c.lo-lo.type_inv c.lo-lo.ensures.value) lo_low lo_high) (cast_is c.power_of_two-one.result (unit g.row.P) c.power_of_two-one.type_inv c.power_of_two-one.ensures) c.div_floor-low.ensures in
+    (dividend_is (unit g.row.P) c.args.x.now.lo (cast c.lo-lo.result) big (cast_is c.lo-lo.result c.args.x.now.lo c.lo-lo.type_inv c.lo-lo.ensures.value) lo_low lo_high) (cast_is c.power_of_two-one.result (unit g.row.P) c.power_of_two-one.type_inv c.power_of_two-one.ensures) c.div_floor-low.ensures in
     small_given c.div_floor-low.result (cast c.div_floor-low.result) (omega (arith, ints)) (floor_bound (unit g.row.P) c.args.x.now.lo c.div_floor-low.result one lo_low lo_high f)
 
 pub signed_root_above-requires : goal.signed_root_above-requires
@@ -62,7 +62,7 @@ signed_root_above-requires g c =
     let hi_high : c.args.x.now.hi ≤ℤ (pos 1024 *ℤ unit g.row.P) = c.requires.high in
     let hi_low : neg_ℤ (pos 1024 *ℤ unit g.row.P) ≤ℤ c.args.x.now.hi = omega (arith, ints) in
     let k = ceiling_given (pos 10000000000000000 *ℤ c.args.x.now.hi) (unit g.row.P) (cast (pos 10000000000000000 *ℤ cast c.hi-hi.result)) (cast c.power_of_two-one.result) c.div_ceil-high.result
-      (dividend_is (unit g.row.P) c.args.x.now.hi (cast c.hi-hi.result) big (cast_is c.hi-hi.result c.args.x.now.hi c.hi-hi.type_inv c.hi-hi.ensures.value) hi_low hi_high) (cast_is c.power_of_two-one.result (unit g.row.P) c.power_of_two-one.type_inv c.power_of_two-one.ensures) c.div_ceil-high.ensures in
+    (dividend_is (unit g.row.P) c.args.x.now.hi (cast c.hi-hi.result) big (cast_is c.hi-hi.result c.args.x.now.hi c.hi-hi.type_inv c.hi-hi.ensures.value) hi_low hi_high) (cast_is c.power_of_two-one.result (unit g.row.P) c.power_of_two-one.type_inv c.power_of_two-one.ensures) c.div_ceil-high.ensures in
     small_given c.div_ceil-high.result (cast c.div_ceil-high.result) (omega (arith, ints)) (ceiling_bound (unit g.row.P) c.args.x.now.hi c.div_ceil-high.result one hi_low hi_high k)
 
 pub returns : goal.returns
@@ -76,13 +76,13 @@ returns g c =
     let hi_high : c.args.x.now.hi ≤ℤ (pos 1024 *ℤ unit g.row.P) = c.requires.high in
     let hi_low : neg_ℤ (pos 1024 *ℤ unit g.row.P) ≤ℤ c.args.x.now.hi = omega (arith, ints) in
     let f = floor_given (pos 10000000000000000 *ℤ c.args.x.now.lo) (unit g.row.P) (cast (pos 10000000000000000 *ℤ cast c.lo-lo.result)) (cast c.power_of_two-one.result) c.div_floor-low.result
-      (dividend_is (unit g.row.P) c.args.x.now.lo (cast c.lo-lo.result) big (cast_is c.lo-lo.result c.args.x.now.lo c.lo-lo.type_inv c.lo-lo.ensures.value) lo_low lo_high) (cast_is c.power_of_two-one.result (unit g.row.P) c.power_of_two-one.type_inv c.power_of_two-one.ensures) c.div_floor-low.ensures in
+    (dividend_is (unit g.row.P) c.args.x.now.lo (cast c.lo-lo.result) big (cast_is c.lo-lo.result c.args.x.now.lo c.lo-lo.type_inv c.lo-lo.ensures.value) lo_low lo_high) (cast_is c.power_of_two-one.result (unit g.row.P) c.power_of_two-one.type_inv c.power_of_two-one.ensures) c.div_floor-low.ensures in
     let k = ceiling_given (pos 10000000000000000 *ℤ c.args.x.now.hi) (unit g.row.P) (cast (pos 10000000000000000 *ℤ cast c.hi-hi.result)) (cast c.power_of_two-one.result) c.div_ceil-high.result
-      (dividend_is (unit g.row.P) c.args.x.now.hi (cast c.hi-hi.result) big (cast_is c.hi-hi.result c.args.x.now.hi c.hi-hi.type_inv c.hi-hi.ensures.value) hi_low hi_high) (cast_is c.power_of_two-one.result (unit g.row.P) c.power_of_two-one.type_inv c.power_of_two-one.ensures) c.div_ceil-high.ensures in
+    (dividend_is (unit g.row.P) c.args.x.now.hi (cast c.hi-hi.result) big (cast_is c.hi-hi.result c.args.x.now.hi c.hi-hi.type_inv c.hi-hi.ensures.value) hi_low hi_high) (cast_is c.power_of_two-one.result (unit g.row.P) c.power_of_two-one.type_inv c.power_of_two-one.ensures) c.div_ceil-high.ensures in
     let below : to_z w64 (of_z w64 c.signed_root_below.result) ≡ c.signed_root_below.result = to_z-of_z {w = w64} (record { sfits = c.signed_root_below.type_inv }) in
     let above : to_z w64 (of_z w64 c.signed_root_above.result) ≡ c.signed_root_above.result = to_z-of_z {w = w64} (record { sfits = c.signed_root_above.type_inv }) in
     record {
       first = greatest_given (unit g.row.P) c.args.x.now.lo c.div_floor-low.result (cast c.div_floor-low.result) c.signed_root_below.result _ one f (cast_is c.div_floor-low.result c.div_floor-low.result c.div_floor-low.type_inv refl) below c.signed_root_below.ensures.at_most c.signed_root_below.ensures.next_above;
       second = least_given (unit g.row.P) c.args.x.now.hi c.div_ceil-high.result (cast c.div_ceil-high.result) c.signed_root_above.result _ one k (cast_is c.div_ceil-high.result c.div_ceil-high.result c.div_ceil-high.type_inv refl) above c.signed_root_above.ensures.at_least c.signed_root_above.ensures.last_below;
-      bound = (bound_given c.signed_root_below.result _ below c.signed_root_below.ensures.bound, bound_given c.signed_root_above.result _ above c.signed_root_above.ensures.bound)
+      bound = (bound_given c.signed_root_below.result _ below c.signed_root_below.ensures.bound, bound_given c.signed_root_above.result _ above c.signed_root_above.ensures.bound);
     }
