@@ -137,7 +137,7 @@ chosen false a k h = absurd cc
 listed_in_range : (x : Expiry) (e : Event) (k : ℕ) → IsInRange e → listed_strike x e ≡ Some k → 1 ≤ k
 listed_in_range x (event.Series s) k range h =
     let same : s.strike ≡ k = chosen (is_same_expiry x (expiry_of s)) s.strike k h in
-    let low = range.1 in
+    let low = range.strike.0 in
     omega arith
 listed_in_range x (event.Header day) k range h = absurd cc
 listed_in_range x (event.Expiry y) k range h = absurd cc
