@@ -9,3 +9,6 @@ mod table;
 
 pub use block::{LineBlock, is_plain_line};
 pub use table::{FieldTable, Fields};
+
+#[cfg(test)]
+mod tests;

@@ -1,0 +1,31 @@
+use crate::{FieldTable, LineBlock, is_plain_line};
+use std::test::Fail;
+
+#[test]
+fn lines_are_split_at_their_commas(rt: HostRuntime) -> Result<(), Fail> {
+    let mut block = LineBlock::new(rt.alloc());
+    let mut table = FieldTable::new(rt.alloc());
+    for line in ["V,08:30", ",,", "END,13", "a b,c"] {
+        assert!(rt; is_plain_line(line.as_bytes()));
+        block.push(line.as_bytes())?;
+    }
+    table.fill(&block)?;
+    assert_eq!(rt; table.len(), 4);
+    assert_eq!(rt; table.line(0).len(), 2);
+    assert_eq!(rt; table.line(0).get(1), Some(b"08:30".as_slice()));
+    assert_eq!(rt; table.line(1).len(), 3);
+    assert_eq!(rt; table.line(1).get(2), Some(b"".as_slice()));
+    assert_eq!(rt; table.line(3).get(0), Some(b"a b".as_slice()));
+    assert!(rt; table.line(3).get(2).is_none());
+    block.clear();
+    table.fill(&block)?;
+    assert!(rt; table.is_empty() && block.is_empty());
+    Ok(())
+}
+
+#[test]
+fn other_lines_are_not_plain(rt: HostRuntime) {
+    for line in ["", "\"", "a\tb", "a\r", "a\u{7f}", "é"] {
+        assert!(rt; !is_plain_line(line.as_bytes()));
+    }
+}
