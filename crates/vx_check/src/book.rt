@@ -1,3 +1,6 @@
+ghost use Rattle.std.specs.Prelude.{◌≡◌, option_map, find};
+ghost use Rattle.vx_check.specs.Kept.{is_table_of, kept_rate, kept_rows};
+
 use crate::table;
 use crate::table::Table;
 use std::alloc::Global;
@@ -57,38 +60,50 @@ impl PlainBook {
     }
 
     /// How many events were pushed, and so the number of the last one's line.
-    pub fn lines(&self) -> u64 {
+    pub fn lines(&self) -> u64
+        ensures { result ≡ self.now.lines }
+    {
         self.lines
     }
 
     /// The trade date, once there was a header.
-    pub fn day(&self) -> Option<DayNo> {
+    pub fn day(&self) -> Option<DayNo>
+        ensures { result ≡ self.now.day }
+    {
         self.day
     }
 
     /// The minute of the last event where that is a tick, else None.
-    pub fn tick(&self) -> Option<u16> {
+    pub fn tick(&self) -> Option<u16>
+        ensures { result ≡ self.now.tick }
+    {
         self.tick
     }
 
     /// The declared expiries, in order of declaration.
-    pub fn expiries(&self) -> &[Expiry] {
+    pub fn expiries(&self) -> &[Expiry]
+        ensures { result.now ≡ self.now.expiries.items }
+    {
         self.expiries.as_slice()
     }
 
     /// The standing rate of an expiry, in 10^-8 per year.
-    pub fn rate(&self, e: Expiry) -> Option<i32> {
-        match self.place_of(e) {
-            Some(place) if place < self.tables.len() => self.tables[place].rate,
-            _ => None,
+    pub fn rate(&self, e: Expiry) -> Option<i32>
+        ensures { result ≡ kept_rate e self.now }
+    {
+        match find_table(&self.tables, e) {
+            Some(table) => table.rate,
+            None => None,
         }
     }
 
     /// The listed strikes of an expiry with their prices, in rising order; none where none is listed.
-    pub fn rows(&self, e: Expiry) -> &[StrikeRow] {
-        match self.place_of(e) {
-            Some(place) if place < self.tables.len() => self.tables[place].rows(),
-            _ => &[],
+    pub fn rows(&self, e: Expiry) -> &[StrikeRow]
+        ensures { result.now ≡ kept_rows e self.now }
+    {
+        match find_table(&self.tables, e) {
+            Some(table) => table.rows(),
+            None => &[],
         }
     }
 
@@ -99,7 +114,7 @@ impl PlainBook {
 
     fn declare(&mut self, expiry: Expiry) -> Result<(), NoMemory> {
         self.tables
-            .push(Table::new(self.alloc))
+            .push(Table::new(self.alloc, expiry))
             .map_err(|_| NoMemory)?;
         if self.expiries.push(expiry).is_err() {
             let _ = self.tables.pop();
@@ -132,6 +147,12 @@ impl PlainBook {
             }
         }
     }
+}
+
+fn find_table(tables: &[Table], expiry: Expiry) -> Option<&Table>
+    ensures { option_map (λ table. table.now) result ≡ find (is_table_of expiry) tables.now }
+{
+    tables.iter().find(|table| expiry == table.expiry)
 }
 
 fn expiry_of(symbol: &Symbol) -> Expiry {

@@ -1,7 +1,10 @@
 ghost use Rattle.std.specs.Prelude.{◌≡◌, ◌==◌};
 ghost use Rattle.std.specs.List.{list_any, list_all};
+ghost use Rattle.vx_feed.specs.Same.{is_same_expiry};
 ghost use Rattle.vx_formula.specs.Pair.{pair_of, is_both_live};
-ghost use Rattle.vx_check.specs.LevelTests.{is_pair_of_row, is_as_close, is_closest, zero_rate_forward, is_other_above, is_level, level_verdict};
+ghost use Rattle.vx_check.specs.Kept.{is_kept};
+ghost use Rattle.vx_check.specs.Answers.{IsAnswer};
+ghost use Rattle.vx_check.specs.LevelTests.{is_tick_at, has_zero_rate, expiry_verdict, first_failing, is_pair_of_row, is_as_close, is_closest, zero_rate_forward, is_other_above, is_level, level_verdict};
 
 use crate::book::PlainBook;
 use vx_cert::{CertBody, Certificate, Pair};
@@ -20,34 +23,73 @@ pub fn is_tested(c: &Certificate) -> bool {
     matches!(c.body, CertBody::K0 { .. })
 }
 
-/// Tests a certificate over the events pushed so far, which end at its feed line or before. A kind that
-/// is not tested yet gets `No(1)` and never a yes: ask `is_tested` first.
-pub fn check_cert(events: &PlainBook, c: &Certificate) -> Verdict {
+/// Tests a certificate over the events pushed so far, the last of which stands at its feed line. A kind
+/// that is not tested yet gets `No(1)` and never a yes: ask `is_tested` first.
+pub fn check_cert(events: &PlainBook, c: &Certificate) -> Verdict
+    ensures { IsAnswer events.now c.now result }
+{
     match &c.body {
         CertBody::K0 { expiry, pair, k0 } => {
-            if !is_tick_at(events, c.line, c.time) {
-                return Verdict::No(1);
-            }
-            check_level(events, *expiry, pair, *k0)
+            first_failing(events, c.line, c.time, *expiry, pair, *k0)
         }
         _ => Verdict::No(1),
     }
 }
 
+/// The tests of kind `k0`.
+fn first_failing(
+    events: &PlainBook,
+    line: u64,
+    time: u16,
+    expiry: Expiry,
+    pair: &Pair,
+    k0: u32,
+) -> Verdict
+    ensures { result ≡ first_failing events.now line time expiry pair.now k0 }
+{
+    if is_tick_at(events, line, time) {
+        check_expiry(events, expiry, pair, k0)
+    } else {
+        Verdict::No(1)
+    }
+}
+
 /// The last event is the tick of this line, at this minute of the day.
-fn is_tick_at(events: &PlainBook, line: u64, time: u16) -> bool {
-    events.lines() == line && events.tick() == Some(time)
+fn is_tick_at(events: &PlainBook, line: u64, time: u16) -> bool
+    ensures { result ≡ is_tick_at events.now line time }
+{
+    events.lines() == line && events.tick().is_some_and(|minute| minute == time)
 }
 
 /// The tests of kind `k0` from the second on.
-fn check_level(events: &PlainBook, expiry: Expiry, pair: &Pair, k0: u32) -> Verdict {
-    if !events.expiries().contains(&expiry) {
+fn check_expiry(events: &PlainBook, expiry: Expiry, pair: &Pair, k0: u32) -> Verdict
+    ensures { result ≡ expiry_verdict events.now expiry pair.now k0 }
+{
+    if !is_declared(events, expiry) {
         Verdict::No(2)
-    } else if events.rate(expiry) != Some(0) {
+    } else if !has_zero_rate(events, expiry) {
         Verdict::No(4)
     } else {
         check_rows(events.rows(expiry), pair, k0)
     }
+}
+
+fn is_declared(events: &PlainBook, expiry: Expiry) -> bool
+    ensures { result ≡ is_kept expiry events.now }
+{
+    is_among(events.expiries(), expiry)
+}
+
+fn is_among(expiries: &[Expiry], expiry: Expiry) -> bool
+    ensures { result ≡ list_any (is_same_expiry expiry) expiries.now }
+{
+    expiries.iter().any(|declared| expiry == *declared)
+}
+
+fn has_zero_rate(events: &PlainBook, expiry: Expiry) -> bool
+    ensures { result ≡ has_zero_rate events.now expiry }
+{
+    events.rate(expiry).is_some_and(|rate| rate == 0)
 }
 
 /// The tests of kind `k0` over the listed rows of its expiry.

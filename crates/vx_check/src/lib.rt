@@ -5,6 +5,8 @@
 pub mod book;
 pub mod check;
 mod table;
+#[cfg(test)]
+mod tests;
 
 pub use book::PlainBook;
 pub use check::{Verdict, check_cert, is_tested};

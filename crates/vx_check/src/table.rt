@@ -1,6 +1,9 @@
 //! The series of one expiry, in rising order of strike.
 
+ghost use Rattle.std.specs.Prelude.{◌≡◌};
+
 use std::alloc::Global;
+use vx_clock::Expiry;
 use vx_num::NoMemory;
 use vx_symbol::{Price, Side, StrikeRow};
 
@@ -14,6 +17,7 @@ const NO_PRICE: Price = Price {
 /// `halves` where one is.
 #[derive(Debug, Drop)]
 pub struct Table {
+    pub expiry: Expiry,
     pub rate: Option<i32>,
     rows: Vec<StrikeRow>,
     halves: Vec<Half>,
@@ -28,8 +32,9 @@ struct Half {
 }
 
 impl Table {
-    pub fn new(alloc: Global) -> Table {
+    pub fn new(alloc: Global, expiry: Expiry) -> Table {
         Table {
+            expiry,
             rate: None,
             rows: Vec::new(alloc),
             halves: Vec::new(alloc),
@@ -37,7 +42,9 @@ impl Table {
     }
 
     /// The listed strikes, in rising order.
-    pub fn rows(&self) -> &[StrikeRow] {
+    pub fn rows(&self) -> &[StrikeRow]
+        ensures { result.now ≡ self.now.rows.items }
+    {
         self.rows.as_slice()
     }
 
