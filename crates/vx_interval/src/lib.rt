@@ -10,3 +10,6 @@ mod product;
 
 pub use interval::Iv;
 pub use product::power_of_two;
+
+#[cfg(test)]
+mod tests;
