@@ -14,3 +14,6 @@ pub use events::Event;
 pub use faults::FeedFault;
 pub use order::{Declared, Order};
 pub use read::{event_of_fields, line_fault, read_event};
+
+#[cfg(test)]
+mod tests;

@@ -1,0 +1,211 @@
+use crate::{Event, FeedFault, Order, read_event};
+use std::alloc::Global;
+use std::test::Fail;
+
+const FEED_A: [&str; 15] = [
+    "H,1,2014-09-17",
+    "E,SPX,2014-10-17",
+    "R,SPX,2014-10-17,0",
+    "S,SPX   141017C01900000",
+    "S,SPX   141017P01900000",
+    "S,SPX   141017C02000000",
+    "S,SPX   141017P02000000",
+    "S,SPX   141017C02100000",
+    "S,SPX   141017P02100000",
+    "Q,08:30,SPX   141017P01900000,10.00,10.00",
+    "Q,08:30,SPX   141017C02000000,50.00,50.00",
+    "Q,08:30,SPX   141017P02000000,50.00,50.00",
+    "Q,08:30,SPX   141017C02100000,10.00,10.00",
+    "V,08:30",
+    "END,13",
+];
+
+const FEED_B: [&str; 27] = [
+    "H,1,2014-09-17",
+    "E,SPX,2014-10-17",
+    "E,SPXW,2014-10-24",
+    "R,SPX,2014-10-17,0",
+    "R,SPXW,2014-10-24,0",
+    "S,SPX   141017C01900000",
+    "S,SPX   141017P01900000",
+    "S,SPX   141017C02000000",
+    "S,SPX   141017P02000000",
+    "S,SPX   141017C02100000",
+    "S,SPX   141017P02100000",
+    "S,SPXW  141024C01900000",
+    "S,SPXW  141024P01900000",
+    "S,SPXW  141024C02000000",
+    "S,SPXW  141024P02000000",
+    "S,SPXW  141024C02100000",
+    "S,SPXW  141024P02100000",
+    "Q,08:30,SPX   141017P01900000,10.00,10.00",
+    "Q,08:30,SPX   141017C02000000,50.00,50.00",
+    "Q,08:30,SPX   141017P02000000,50.00,50.00",
+    "Q,08:30,SPX   141017C02100000,10.00,10.00",
+    "Q,08:30,SPXW  141024P01900000,10.00,10.00",
+    "Q,08:30,SPXW  141024C02000000,50.00,50.00",
+    "Q,08:30,SPXW  141024P02000000,50.00,50.00",
+    "Q,08:30,SPXW  141024C02100000,10.00,10.00",
+    "V,08:30",
+    "END,25",
+];
+
+const FEED_D: [&str; 16] = [
+    "H,1,2014-09-17",
+    "E,SPX,2014-10-17",
+    "R,SPX,2014-10-17,0",
+    "S,SPX   141017C01900000",
+    "S,SPX   141017P01900000",
+    "S,SPX   141017C02000000",
+    "S,SPX   141017P02000000",
+    "S,SPX   141017C02100000",
+    "S,SPX   141017P02100000",
+    "T,08:30,SPX   141017P01900000,10.00",
+    "T,08:30,SPX   141017C02000000,50.00",
+    "Q,08:30,SPX   141017P02000000,50.00,50.00",
+    "Q,08:30,SPX   141017C02100000,10.00,10.00",
+    "T,08:30,SPX   141017P01900000,12.00",
+    "Z,08:30",
+    "END,14",
+];
+
+// How many lines of the first sample feed come before, a line after them, and its fault.
+const FAULTS: [(usize, &str, FeedFault); 29] = [
+    (1, "V,08:30\"", FeedFault::Byte),
+    (1, "V,08:3é", FeedFault::Byte),
+    (1, "", FeedFault::Kind),
+    (1, "X,08:30", FeedFault::Kind),
+    (1, "V", FeedFault::Fields),
+    (1, "V,08:30,", FeedFault::Fields),
+    (0, "H,2,2014-09-17", FeedFault::Field(2)),
+    (0, "H,1,2014-09-31", FeedFault::Field(3)),
+    (1, "V,24:00", FeedFault::Field(2)),
+    (1, "V,8:30", FeedFault::Field(2)),
+    (2, "R,SPX,2014-10-17,-5.000001", FeedFault::Field(4)),
+    (2, "R,SPX,2014-10-17,25.000001", FeedFault::Field(4)),
+    (3, "S,SPX  141017C01900000", FeedFault::Field(2)),
+    (3, "S,SPX   141317C01900000", FeedFault::Field(2)),
+    (
+        9,
+        "Q,08:30,SPX   141017C01900000,1.001,2.00",
+        FeedFault::Field(4),
+    ),
+    (
+        9,
+        "Q,08:30,SPX   141017C01900000,50000.01,50000.01",
+        FeedFault::Field(4),
+    ),
+    (9, "T,08:30,SPX   141017C01900000,0.00", FeedFault::Field(4)),
+    (0, "E,SPX,2014-10-17", FeedFault::NotFirst),
+    (1, "H,1,2014-09-17", FeedFault::NotFirst),
+    (15, "H,1,2014-09-17", FeedFault::NotFirst),
+    (15, "V,08:30", FeedFault::AfterEnd),
+    (
+        13,
+        "Q,08:29,SPX   141017C02100000,1.00,1.00",
+        FeedFault::TimeBack,
+    ),
+    (2, "E,SPX,2014-10-17", FeedFault::DuplicateExpiry),
+    (4, "S,SPX   141017C01900000", FeedFault::DuplicateSeries),
+    (3, "R,SPX,2014-10-24,0", FeedFault::UndeclaredExpiry),
+    (3, "S,SPXW  141017C01900000", FeedFault::UndeclaredExpiry),
+    (14, "END,12", FeedFault::EndCount),
+    (1, "E,SPX,2014-09-17", FeedFault::TimeRange),
+    (1, "E,SPX,2015-03-17", FeedFault::TimeRange),
+];
+
+// The same of lines that are lawful there.
+const LAWFUL: [(usize, &str); 9] = [
+    (2, "R,SPX,2014-10-17,-0"),
+    (2, "R,SPX,2014-10-17,-5.000000"),
+    (2, "R,SPX,2014-10-17,25"),
+    (9, "Q,23:59,SPX   141017C01900000,50000,050000.00"),
+    (9, "T,00:00,SPX   141017C01900000,0.01"),
+    (1, "E,SPX,2014-09-18"),
+    (1, "E,SPX,2015-03-16"),
+    (1, "END,0"),
+    (1, "Q,08:30,SPX   141017C01900000,2.00,1.00"),
+];
+
+// Reads the lines in turn, and gives the fault of the first bad one.
+fn first_fault(alloc: Global, lines: &[&str]) -> Result<Option<FeedFault>, Fail> {
+    let mut seen = Order::new(alloc)?;
+    for line in lines {
+        match read_event(alloc, line.as_bytes(), &seen) {
+            Ok(event) => seen.note(&event)?,
+            Err(fault) => return Ok(Some(fault)),
+        }
+    }
+    Ok(None)
+}
+
+// The fault of a line after the first lines of the first sample feed.
+fn fault_after(alloc: Global, count: usize, line: &str) -> Result<Option<FeedFault>, Fail> {
+    let mut seen = Order::new(alloc)?;
+    for before in FEED_A.iter().take(count) {
+        seen.note(&read_event(alloc, before.as_bytes(), &seen)?)?;
+    }
+    Ok(read_event(alloc, line.as_bytes(), &seen).err())
+}
+
+#[test]
+fn sample_feeds_are_lawful(rt: HostRuntime) -> Result<(), Fail> {
+    assert_eq!(rt; first_fault(rt.alloc(), &FEED_A)?, None);
+    assert_eq!(rt; first_fault(rt.alloc(), &FEED_B)?, None);
+    assert_eq!(rt; first_fault(rt.alloc(), &FEED_D)?, None);
+    Ok(())
+}
+
+#[test]
+fn each_fault_comes_for_its_cause(rt: HostRuntime) -> Result<(), Fail> {
+    for (count, line, fault) in FAULTS.iter() {
+        assert_eq!(rt; fault_after(rt.alloc(), *count, line)?, Some(*fault));
+    }
+    Ok(())
+}
+
+#[test]
+fn lines_at_the_limits_are_lawful(rt: HostRuntime) -> Result<(), Fail> {
+    for (count, line) in LAWFUL.iter() {
+        assert_eq!(rt; fault_after(rt.alloc(), *count, line)?, None);
+    }
+    Ok(())
+}
+
+#[test]
+fn a_second_opening_is_refused(rt: HostRuntime) -> Result<(), Fail> {
+    let lines = ["H,1,2014-09-17", "Z,08:30", "Z,08:30"];
+    assert_eq!(rt;
+        first_fault(rt.alloc(), &lines)?,
+        Some(FeedFault::SecondOpening)
+    );
+    Ok(())
+}
+
+#[test]
+fn a_seventeenth_expiry_is_refused(rt: HostRuntime) -> Result<(), Fail> {
+    let mut seen = Order::new(rt.alloc())?;
+    seen.note(&read_event(rt.alloc(), b"H,1,2014-09-17", &seen)?)?;
+    for day in b'0'..b'8' {
+        for root in ["SPX", "SPXW"] {
+            let line = format!(in rt.alloc(); "E,{root},2014-10-1{}", day - b'0')?;
+            seen.note(&read_event(rt.alloc(), line.as_bytes(), &seen)?)?;
+        }
+    }
+    let answer = read_event(rt.alloc(), b"E,SPX,2014-10-20", &seen);
+    assert_eq!(rt; answer.err(), Some(FeedFault::TooMany));
+    Ok(())
+}
+
+#[test]
+fn a_rate_is_read_with_its_sign(rt: HostRuntime) -> Result<(), Fail> {
+    let mut seen = Order::new(rt.alloc())?;
+    for line in FEED_A.iter().take(2) {
+        seen.note(&read_event(rt.alloc(), line.as_bytes(), &seen)?)?;
+    }
+    match read_event(rt.alloc(), b"R,SPX,2014-10-17,-0.0305", &seen)? {
+        Event::Rate { rate, .. } => assert_eq!(rt; rate, -30_500),
+        _ => assert!(rt; false),
+    }
+    Ok(())
+}
