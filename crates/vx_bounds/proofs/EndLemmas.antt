@@ -1,6 +1,5 @@
 -- How wide the exponential's ends lie apart, and how large they are.
-use Rattle.std.proofs.Common.{◌≡◌, ℕ, zero, suc, ◌+◌, ◌-◌, ◌*◌, ◌/◌, ◌%◌, ◌^◌, ◌<◌, ◌≤◌, refl, sym, ap, ◌∙◌, subst, arith, mul-le-mul_left, mul-le-mul_right, mul-pos, le_refl, le_trans, pow-add}
-use Rattle.std.proofs.Math.Nat.{le_of_mul-le-mul_right, lt_of_mul-lt-mul_right}
+use Rattle.std.proofs.Common.{◌≡◌, ℕ, zero, suc, ◌+◌, ◌*◌, ◌^◌, ◌<◌, ◌≤◌, refl, arith, mul-le-mul_right, le_refl, le_trans}
 use Rattle.vx_bounds.specs.Exponential.{low_term, high_term, low_sum, high_sum, low_end, high_end}
 use Rattle.vx_bounds.proofs.TermLemmas.{low_under_high, first_gap, next_gap, high_shrinks, low_shrinks}
 

@@ -1,6 +1,6 @@
 -- Roots of whole numbers.
-use Rattle.std.proofs.Common.{◌≡◌, ◌∙◌, ℕ, zero, suc, ◌+◌, ◌-◌, ◌*◌, ◌<◌, ◌≤◌, ℤ, pos, negsuc, ◌+ℤ◌, ◌-ℤ◌, ◌*ℤ◌, neg_ℤ, nat_abs, ◌≤ℤ◌, ◌<ℤ◌, refl, sym, ap, subst, arith, mul-le-mul, mul-le-mul_left, mul-le-mul_right, inl, inr, to_z-of_z}
-use Rattle.std.proofs.lemmas.Int.{ints, by_lt_z}
+use Rattle.std.proofs.Common.{◌≡◌, ◌∙◌, ℕ, zero, suc, ◌+◌, ◌-◌, ◌*◌, ◌<◌, ◌≤◌, ℤ, pos, negsuc, ◌+ℤ◌, ◌-ℤ◌, ◌*ℤ◌, neg_ℤ, nat_abs, ◌≤ℤ◌, ◌<ℤ◌, refl, sym, ap, subst, arith, mul-le-mul, inl, inr, to_z-of_z}
+use Rattle.std.proofs.lemmas.Int.{ints}
 use Rattle.std.proofs.lemmas.Bool.{cases_lt}
 use Rattle.std.specs.Prelude.{FitsSigned, ◌^◌}
 use mir.Syntax.{w128}
@@ -10,7 +10,7 @@ use Rattle.vx_interval.proofs.Widths.{within}
 use Rattle.vx_interval.proofs.Ranges.{cast, fits_within}
 use Rattle.vx_num.specs.SignedSquare.{signed_square}
 use Rattle.vx_num.specs.Quotient.{IsFloor, IsCeiling}
-use Rattle.vx_num.proofs.Whole.{add_mul, mul_mono, mul_cancel}
+use Rattle.vx_num.proofs.Whole.{add_mul, mul_mono}
 use Rattle.vx_num.proofs.Squares.{signed_square-neg}
 use Rattle.vx_num.proofs.Quotients.{floor_within, ceiling_within}
 use Rattle.vx_bounds.specs.Root.{IsGreatestRoot, IsLeastRoot}

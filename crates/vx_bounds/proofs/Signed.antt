@@ -1,15 +1,14 @@
 -- The exponential of an exponent of either sign, as the code finds it.
-use Rattle.std.proofs.Common.{◌≡◌, ◌∙◌, ℕ, zero, suc, ◌+◌, ◌*◌, ◌^◌, ◌<◌, ◌≤◌, ℤ, pos, negsuc, ◌*ℤ◌, neg_ℤ, nat_abs, ◌≤ℤ◌, ◌<ℤ◌, refl, sym, ap, subst, arith, le_trans, mul-le-mul, lit≤, to_z-of_z}
-use Rattle.std.specs.Prelude.{FitsSigned, true, false}
+use Rattle.std.proofs.Common.{◌≡◌, ◌∙◌, ℕ, suc, ◌*◌, ◌^◌, ◌<◌, ◌≤◌, ℤ, pos, negsuc, ◌*ℤ◌, nat_abs, ◌≤ℤ◌, ◌<ℤ◌, sym, ap, subst, arith, le_trans, mul-le-mul, lit≤, to_z-of_z}
+use Rattle.std.specs.Prelude.{FitsSigned, false}
 use lib.Signed.{le_z}
 use mir.Syntax.{w128}
 use Rattle.std.proofs.Math.Pow.{pow_mono}
 use Rattle.std.proofs.lemmas.Int.{ints}
 use Rattle.vx_num.specs.Quotient.{IsFloor, IsCeiling}
 use Rattle.vx_interval.specs.Ends.{Ends, IsScale, unit}
-use Rattle.vx_interval.specs.Rounding.{floor_of, ceiling_of}
 use Rattle.vx_interval.proofs.RoundingLemmas.{floor_found, ceiling_found}
-use Rattle.vx_interval.proofs.Ranges.{cast, fits_within, products_same}
+use Rattle.vx_interval.proofs.Ranges.{cast, fits_within}
 use Rattle.vx_bounds.specs.Exponential.{low_end, high_end, IsTightValue, exp_ends, signed_ends}
 use Rattle.vx_bounds.proofs.Roots.{floor_given, ceiling_given}
 use Rattle.vx_bounds.proofs.Values.{exp_is_good, negative_is_good}

@@ -1,8 +1,8 @@
 -- One step of a list of terms, as the code takes it.
-use Rattle.std.proofs.Common.{◌≡◌, ◌∙◌, ℕ, zero, suc, ◌+◌, ◌*◌, ◌/◌, ◌^◌, ◌<◌, ◌≤◌, List, length, get_or, set, sym, ap, subst, arith, mul-le-mul_left, mul-le-mul_right, mul-le-mul, mul-pos, le_trans, add-one, eq-or-lt_of_le, refl, inl, inr, ◌≢◌, le_of_lt}
+use Rattle.std.proofs.Common.{◌≡◌, ◌∙◌, ℕ, ◌+◌, ◌*◌, ◌/◌, ◌^◌, ◌<◌, ◌≤◌, List, length, get_or, set, sym, subst, arith, mul-le-mul_left, mul-le-mul_right, mul-le-mul, mul-pos, add-one, eq-or-lt_of_le, refl, inl, inr, ◌≢◌, le_of_lt}
 use Rattle.std.proofs.lemmas.List.{get_or-set_same, get_or-set_other, length-set}
 use Rattle.std.proofs.lemmas.Bool.{cases_lt}
-use Rattle.std.proofs.Math.Nat.{div-le_of_le-mul, div-mul-le_self}
+use Rattle.std.proofs.Math.Nat.{div-le_of_le-mul}
 use Rattle.std.specs.Int.{div_ceil}
 use Rattle.vx_bounds.specs.Exponential.{IsTerms, low_term, high_term, low_sum, high_sum}
 use Rattle.vx_bounds.proofs.TermLemmas.{ceil_below}

@@ -1,7 +1,7 @@
 -- Two figures that differ have a boundary between them.
-use Rattle.std.proofs.Common.{◌≡◌, ℕ, ◌+◌, ◌-◌, ◌*◌, ◌/◌, ◌<◌, ◌≤◌, ◌≢◌, inl, inr, ℤ, pos, negsuc, ◌≤ℤ◌, ◌<ℤ◌, refl, sym, subst, arith, le_refl, lt_irrefl, nat_abs}
+use Rattle.std.proofs.Common.{ℕ, ◌+◌, ◌-◌, ◌*◌, ◌<◌, ◌≤◌, ◌≢◌, inr, ℤ, pos, negsuc, ◌≤ℤ◌, refl, arith, nat_abs}
 use Rattle.std.proofs.lemmas.Int.{ints}
-use Rattle.vx_bounds.specs.Cents.{IsBoundary, IsStraddled, cents_of}
+use Rattle.vx_bounds.specs.Cents.{IsStraddled, cents_of}
 
 pub straddled_naturals : (a b : ℕ) → a ≤ b → cents_of a ≢ cents_of b → IsStraddled (pos a) (pos b)
 straddled_naturals a b l ne =

@@ -1,8 +1,8 @@
 -- The rounded terms: how they shrink, how close the two lists stay, and how large the ends are. All over natural numbers; u is 2^P.
-use Rattle.std.proofs.Common.{◌≡◌, ℕ, zero, suc, ◌+◌, ◌-◌, ◌*◌, ◌/◌, ◌%◌, ◌^◌, ◌<◌, ◌≤◌, min, refl, sym, ap, ◌∙◌, arith, mul-le-mul_left, mul-le-mul_right, mul-pos, le_refl, le_trans}
+use Rattle.std.proofs.Common.{◌≡◌, ℕ, zero, suc, ◌+◌, ◌*◌, ◌/◌, ◌%◌, ◌<◌, ◌≤◌, min, arith, mul-le-mul_left, mul-le-mul_right, mul-pos, le_refl, le_trans}
 use Rattle.std.proofs.Math.Nat.{div-mul-le_self, lt-div-mul-add, div-add-mod', mod-lt, le_of_mul-le-mul_right, lt_of_mul-lt-mul_right}
 use Rattle.std.specs.Int.{div_ceil}
-use Rattle.vx_bounds.specs.Exponential.{low_term, high_term, low_sum, high_sum, low_end, high_end}
+use Rattle.vx_bounds.specs.Exponential.{low_term, high_term}
 
 -- ---- quotients of naturals
 

@@ -1,12 +1,11 @@
 -- The exponential's ends enclose the bracket at 12, and how they lie.
-use Rattle.std.proofs.Common.{◌≡◌, ◌∙◌, ℕ, zero, suc, ◌+◌, ◌-◌, ◌*◌, ◌^◌, ◌<◌, ◌≤◌, ℤ, pos, negsuc, ◌+ℤ◌, ◌-ℤ◌, ◌*ℤ◌, neg_ℤ, nat_abs, ◌≤ℤ◌, ◌<ℤ◌, refl, sym, ap, ap₂, subst, arith, le_refl, le_trans, mul-le-mul, mul-le-mul_left, mul-le-mul_right, mul-pos, pow-add, pow_pos, List, get_or}
+use Rattle.std.proofs.Common.{◌≡◌, ◌∙◌, ℕ, zero, suc, ◌+◌, ◌-◌, ◌*◌, ◌^◌, ◌<◌, ◌≤◌, ℤ, pos, negsuc, ◌≤ℤ◌, ◌<ℤ◌, refl, sym, ap, subst, arith, le_refl, le_trans, mul-le-mul_left, mul-le-mul_right, mul-pos, pow-add, pow_pos, List, get_or}
 use Rattle.std.proofs.Math.Nat.{lt_of_mul-lt-mul_right, le_of_mul-le-mul_right}
 use Rattle.std.proofs.Math.Pow.{pow_mono}
 use Rattle.std.proofs.lemmas.Int.{ints}
-use Rattle.vx_num.specs.Fraction.{Fraction, IsProper}
-use Rattle.vx_interval.specs.Ends.{Ends, IsScale, IsInRange, IsInterval, unit, width}
+use Rattle.vx_num.specs.Fraction.{Fraction}
+use Rattle.vx_interval.specs.Ends.{Ends, IsScale, unit}
 use Rattle.vx_interval.specs.Membership.{IsMember}
-use Rattle.vx_interval.specs.Rounding.{floor_of, ceiling_of}
 use Rattle.vx_num.specs.Quotient.{IsFloor, IsCeiling}
 use Rattle.vx_interval.proofs.EndsLemmas.{same_ends}
 use Rattle.vx_interval.proofs.RoundingLemmas.{floor_of_is, ceiling_of_is}

@@ -1,5 +1,5 @@
 -- The index by squares: the ends of the signed root, in millionths of a point.
-use Rattle.std.specs.Prelude.{ℕ, ◌^◌, ℤ, pos, ◌+ℤ◌, ◌-ℤ◌, ◌*ℤ◌, ◌≤ℤ◌, ◌<ℤ◌}
+use Rattle.std.specs.Prelude.{◌^◌, ℤ, pos, ◌+ℤ◌, ◌-ℤ◌, ◌*ℤ◌, ◌≤ℤ◌, ◌<ℤ◌}
 use Rattle.vx_num.specs.SignedSquare.{signed_square}
 
 -- z is the greatest whole number whose signed square is at most 10^16 * y / u. The signed square of the root itself is that number, so z is the greatest at most the signed root

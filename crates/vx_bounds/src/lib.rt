@@ -11,3 +11,6 @@ mod root;
 pub use cents::{Decision, decide, round_cents};
 pub use exponential::{ExpRun, exp_bounds, exp_signed};
 pub use root::root_ends;
+
+#[cfg(test)]
+mod tests;

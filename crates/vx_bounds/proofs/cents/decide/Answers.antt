@@ -1,4 +1,4 @@
-use Rattle.std.proofs.Common.{◌≡◌, ◌∙◌, ℤ, pos, ◌≤ℤ◌, nat_abs, sym, ap, arith, to_z-of_z}
+use Rattle.std.proofs.Common.{◌∙◌, pos, ◌≤ℤ◌, nat_abs, sym, ap, arith, to_z-of_z}
 use Rattle.std.proofs.lemmas.Int.{ints}
 use Rattle.vx_bounds.specs.Cents.{cents_of}
 use Rattle.vx_bounds.proofs.Straddles.{straddled}

@@ -1,4 +1,4 @@
-use Rattle.std.proofs.Common.{◌≡◌, ◌∙◌, ℕ, ◌+◌, ◌*◌, ◌^◌, ◌<◌, ◌≤◌, ℤ, pos, refl, sym, ap, subst, arith, rules, le_trans, List, length, get_or}
+use Rattle.std.proofs.Common.{◌∙◌, ℕ, ◌^◌, ◌≤◌, subst, arith, rules}
 use Rattle.std.proofs.lemmas.Int.{ints}
 use Rattle.vx_interval.proofs.EndsLemmas.{same_ends}
 use Rattle.vx_bounds.specs.Exponential.{IsTerms, low_term, high_term}

@@ -1,9 +1,9 @@
-use Rattle.std.proofs.Common.{◌≡◌, ◌∙◌, ℕ, ◌+◌, ◌*◌, ◌^◌, ◌<◌, ◌≤◌, ℤ, pos, neg_ℤ, nat_abs, ◌*ℤ◌, ◌≤ℤ◌, ◌<ℤ◌, refl, sym, ap, subst, arith, rules, to_z-of_z}
+use Rattle.std.proofs.Common.{◌≡◌, ◌∙◌, ℕ, ◌^◌, pos, nat_abs, ◌≤ℤ◌, ◌<ℤ◌, sym, ap, subst, arith, rules, to_z-of_z}
 use Rattle.std.proofs.lemmas.Int.{ints}
 use Rattle.vx_interval.specs.Ends.{Ends, unit}
 use Rattle.vx_interval.proofs.EndsLemmas.{same_ends, unit_positive}
 use Rattle.vx_interval.proofs.Ranges.{cast, cast_is, pair_in_range}
-use Rattle.vx_bounds.specs.Exponential.{IsTerms, IsTightValue, low_term, high_term, low_end, high_end, exp_ends, signed_ends}
+use Rattle.vx_bounds.specs.Exponential.{IsTerms, IsTightValue, low_term, high_term, low_end, high_end}
 use Rattle.vx_bounds.proofs.Values.{signed_encloses}
 use Rattle.vx_bounds.proofs.Signed.{signed_is_good, signed_of_nonneg, square_fits, square_is, negative_found, positive_high, positive_low, negative_sign}
 use Rattle.vx_bounds.proofs.exponential.exp_signed.Goals as goal

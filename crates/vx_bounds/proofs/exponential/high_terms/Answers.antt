@@ -1,4 +1,4 @@
-use Rattle.std.proofs.Common.{◌≡◌, ◌∙◌, ℕ, ◌+◌, ◌*◌, ◌/◌, ◌^◌, ◌<◌, ◌≤◌, refl, sym, ap, subst, arith, le_trans}
+use Rattle.std.proofs.Common.{◌≡◌, ◌∙◌, ◌+◌, ◌*◌, refl, sym, ap, arith}
 use Rattle.std.specs.Int.{div_ceil}
 use Rattle.vx_bounds.specs.Exponential.{high_term, high_sum}
 use Rattle.vx_bounds.proofs.EndLemmas.{high_at_most, high_so_far, high_first}

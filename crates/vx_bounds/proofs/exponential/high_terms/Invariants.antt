@@ -1,4 +1,3 @@
-use Rattle.std.proofs.Common.{◌≡◌, ℕ, ◌≤◌, length, get_or}
 use Rattle.vx_bounds.specs.Exponential.{high_term, high_sum}
 use Rattle.vx_bounds.proofs.Loops.{Collects}
 use Rattle.vx_bounds.proofs.exponential.high_terms.Given as goal

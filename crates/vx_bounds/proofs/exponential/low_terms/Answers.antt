@@ -1,5 +1,4 @@
-use Rattle.std.proofs.Common.{◌≡◌, ◌∙◌, ℕ, ◌+◌, ◌*◌, ◌/◌, ◌^◌, ◌<◌, ◌≤◌, refl, sym, ap, subst, arith, le_trans}
-use Rattle.std.specs.Int.{div_ceil}
+use Rattle.std.proofs.Common.{◌≡◌, ◌∙◌, ◌+◌, ◌*◌, ◌/◌, refl, sym, ap, arith}
 use Rattle.vx_bounds.specs.Exponential.{low_term, low_sum}
 use Rattle.vx_bounds.proofs.EndLemmas.{low_at_most, low_so_far, low_first}
 use Rattle.vx_bounds.proofs.Steps.{low_next_is, low_sum_next, low_sum_first, collects_none, collects_more, terms_done}

@@ -1,4 +1,3 @@
-use Rattle.std.proofs.Common.{◌≡◌, ℕ, ◌≤◌, length, get_or}
 use Rattle.vx_bounds.specs.Exponential.{low_term, low_sum}
 use Rattle.vx_bounds.proofs.Loops.{Collects}
 use Rattle.vx_bounds.proofs.exponential.low_terms.Given as goal

@@ -1,4 +1,4 @@
-use Rattle.std.proofs.Common.{◌≤◌, arith, le_trans}
+use Rattle.std.proofs.Common.{arith, le_trans}
 use Rattle.vx_bounds.proofs.Roots.{root_bound}
 use Rattle.vx_bounds.proofs.root.root_down.Goals as goal
 

@@ -1,6 +1,6 @@
-use Rattle.std.proofs.Common.{◌≡◌, ◌∙◌, ℕ, ℤ, pos, neg_ℤ, ◌-ℤ◌, ◌*ℤ◌, ◌≤ℤ◌, ◌<ℤ◌, nat_abs, refl, sym, ap, arith, to_z, of_z, to_z-of_z}
+use Rattle.std.proofs.Common.{◌≡◌, pos, neg_ℤ, ◌*ℤ◌, ◌≤ℤ◌, refl, arith, to_z, of_z, to_z-of_z}
 use Rattle.std.proofs.lemmas.Int.{ints}
-use mir.Syntax.{w64, w128}
+use mir.Syntax.{w64}
 use Rattle.vx_interval.specs.Ends.{unit}
 use Rattle.vx_interval.proofs.EndsLemmas.{unit_positive}
 use Rattle.vx_interval.proofs.Ranges.{cast, cast_is}

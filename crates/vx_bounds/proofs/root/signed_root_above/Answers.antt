@@ -1,4 +1,4 @@
-use Rattle.std.proofs.Common.{◌≡◌, ◌∙◌, ℕ, ℤ, pos, neg_ℤ, ◌-ℤ◌, nat_abs, sym, ap, arith, to_z, of_z, to_z-of_z}
+use Rattle.std.proofs.Common.{◌≡◌, pos, neg_ℤ, ◌-ℤ◌, arith, to_z, of_z}
 use Rattle.std.proofs.lemmas.Int.{ints}
 use mir.Syntax.{w64, w128}
 use Rattle.vx_interval.proofs.Widths.{from_within}
