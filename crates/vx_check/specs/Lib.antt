@@ -1,3 +1,4 @@
 pub mod Kept
 pub mod LevelTests
 pub mod Answers
+pub mod Agrees

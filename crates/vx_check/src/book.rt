@@ -1,4 +1,7 @@
-ghost use Rattle.std.specs.Prelude.{◌≡◌, option_map, find};
+ghost use Rattle.std.specs.Prelude.{◌≡◌, [], ◌∷◌, ◌++◌, List, IfOk, OnOk, OnErr, option_map, find};
+ghost use Rattle.vx_feed.specs.declared.events.Event.{Event};
+ghost use Rattle.vx_feed.specs.Order.{IsLawfulNext};
+ghost use Rattle.vx_check.specs.Agrees.{AgreesOnDates, TakesDates, SameDates, tick_minute};
 ghost use Rattle.vx_check.specs.Kept.{is_table_of, kept_rate, kept_rows};
 
 use crate::table;
@@ -25,7 +28,9 @@ pub struct PlainBook {
 
 impl PlainBook {
     /// The book of no event.
-    pub fn new(alloc: Global) -> Result<PlainBook, NoMemory> {
+    pub fn new(alloc: Global) -> Result<PlainBook, NoMemory>
+        ensures { IfOk result (λ book. AgreesOnDates book []) }
+    {
         Ok(PlainBook {
             lines: 0,
             day: None,
@@ -37,26 +42,43 @@ impl PlainBook {
     }
 
     /// Takes the next event, which is lawful next. After a refusal the book is unchanged.
-    pub fn push(&mut self, e: Event) -> Result<(), NoMemory> {
+    pub fn push(&mut self, e: Event) -> Result<(), NoMemory>
+        ensures taken { (events : List Event) → AgreesOnDates self.old events → IsLawfulNext events e → OnOk result (AgreesOnDates self.new (events ++ e ∷ [])) }
+        ensures refused { OnErr result (SameDates self.old self.new) }
+    {
+        self.take(e)?;
+        self.tick = tick_minute(e);
+        self.lines = self.lines.saturating_add(1);
+        Ok(())
+    }
+
+    /// Takes what an event says of the trade date, the expiries and their series.
+    fn take(&mut self, e: Event) -> Result<(), NoMemory>
+        ensures taken { OnOk result (TakesDates self.old e self.new) }
+        ensures refused { OnErr result (SameDates self.old self.new) }
+    {
         match e {
-            Event::Expiry(expiry) => self.declare(expiry)?,
-            Event::Series(symbol) => self.list(&symbol)?,
-            Event::Header { day } => self.day = Some(day),
-            Event::Rate { expiry, rate } => self.set_rate(expiry, rate),
+            Event::Header { day } => {
+                self.day = Some(day);
+                Ok(())
+            }
+            Event::Expiry(expiry) => self.declare(expiry),
+            Event::Series(symbol) => list(self.tables.as_mut_slice(), &symbol),
+            Event::Rate { expiry, rate } => {
+                set_rate(self.tables.as_mut_slice(), expiry, rate);
+                Ok(())
+            }
             Event::Quote {
                 symbol,
                 bid,
                 ask,
                 ..
-            } => self.quote(&symbol, bid, ask),
-            _ => {}
+            } => {
+                quote(self.tables.as_mut_slice(), &symbol, bid, ask);
+                Ok(())
+            }
+            _ => Ok(()),
         }
-        self.tick = match e {
-            Event::Tick { time } => Some(time),
-            _ => None,
-        };
-        self.lines = self.lines.saturating_add(1);
-        Ok(())
     }
 
     /// How many events were pushed, and so the number of the last one's line.
@@ -107,12 +129,10 @@ impl PlainBook {
         }
     }
 
-    /// Where an expiry stands in order of declaration.
-    fn place_of(&self, e: Expiry) -> Option<usize> {
-        self.expiries.iter().position(|expiry| *expiry == e)
-    }
-
-    fn declare(&mut self, expiry: Expiry) -> Result<(), NoMemory> {
+    fn declare(&mut self, expiry: Expiry) -> Result<(), NoMemory>
+        ensures taken { OnOk result (TakesDates self.old (Event.Expiry expiry) self.new) }
+        ensures refused { OnErr result (SameDates self.old self.new) }
+    {
         self.tables
             .push(Table::new(self.alloc, expiry))
             .map_err(|_| NoMemory)?;
@@ -122,29 +142,42 @@ impl PlainBook {
         }
         Ok(())
     }
+}
 
-    fn list(&mut self, symbol: &Symbol) -> Result<(), NoMemory> {
-        match self.place_of(expiry_of(symbol)) {
-            Some(place) if place < self.tables.len() => {
-                self.tables[place].list(symbol.side, symbol.strike)
-            }
-            _ => Ok(()),
+/// The minute of a tick.
+fn tick_minute(e: Event) -> Option<u16>
+    ensures { result ≡ tick_minute e }
+{
+    match e {
+        Event::Tick { time } => Some(time),
+        _ => None,
+    }
+}
+
+/// Where the table of an expiry stands.
+fn place_of(tables: &[Table], expiry: Expiry) -> Option<usize> {
+    tables.iter().position(|table| expiry == table.expiry)
+}
+
+fn list(tables: &mut [Table], symbol: &Symbol) -> Result<(), NoMemory> {
+    match place_of(tables, expiry_of(symbol)) {
+        Some(place) if place < tables.len() => tables[place].list(symbol.side, symbol.strike),
+        _ => Ok(()),
+    }
+}
+
+fn set_rate(tables: &mut [Table], expiry: Expiry, rate: i32) {
+    if let Some(place) = place_of(tables, expiry) {
+        if place < tables.len() {
+            tables[place].rate = Some(rate);
         }
     }
+}
 
-    fn set_rate(&mut self, expiry: Expiry, rate: i32) {
-        if let Some(place) = self.place_of(expiry) {
-            if place < self.tables.len() {
-                self.tables[place].rate = Some(rate);
-            }
-        }
-    }
-
-    fn quote(&mut self, symbol: &Symbol, bid: u32, ask: u32) {
-        if let Some(place) = self.place_of(expiry_of(symbol)) {
-            if place < self.tables.len() {
-                self.tables[place].set_price(symbol.side, symbol.strike, table::quoted(bid, ask));
-            }
+fn quote(tables: &mut [Table], symbol: &Symbol, bid: u32, ask: u32) {
+    if let Some(place) = place_of(tables, expiry_of(symbol)) {
+        if place < tables.len() {
+            tables[place].set_price(symbol.side, symbol.strike, table::quoted(bid, ask));
         }
     }
 }
