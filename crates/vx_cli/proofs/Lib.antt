@@ -1,2 +1,4 @@
+mod ExitLemmas
+mod FailureLemmas
 mod OperandLemmas
 mod RequestLemmas

@@ -25,3 +25,12 @@ abbrev pub IsWithoutNoMemory : Exit → Type 0
 IsWithoutNoMemory (BadFeed line (Event feed.NoMemory)) = ⊥
 IsWithoutNoMemory (BadPositions line (Fault position.NoMemory)) = ⊥
 IsWithoutNoMemory _ = Unit {0}
+
+-- an exit in the middle of a command, which is no answer of a whole run
+abbrev pub IsStop : Exit → Type 0
+IsStop Done = ⊥
+IsStop (SaidNo count) = ⊥
+IsStop Usage = ⊥
+IsStop (BadFeed line (Event feed.NoMemory)) = ⊥
+IsStop (BadPositions line (Fault position.NoMemory)) = ⊥
+IsStop _ = Unit {0}

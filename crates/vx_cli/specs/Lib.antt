@@ -1,4 +1,11 @@
+pub mod CheckText
+pub mod Checking
+pub mod ExitText
 pub mod Exits
+pub mod Failures
+pub mod Numbering
 pub mod Operands
+pub mod Reading
 pub mod Requests
+pub mod Runs
 pub mod Words

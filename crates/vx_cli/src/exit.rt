@@ -2,6 +2,7 @@ ghost use Rattle.std.specs.Prelude.{◌≡◌};
 
 use vx_desk::Slot;
 use vx_feed::FeedFault;
+use vx_num::NoMemory;
 use vx_settle::PositionFault;
 
 /// Why a run ended.
@@ -86,5 +87,16 @@ impl Exit {
             Exit::BadPositions { .. } => 8,
             Exit::BadCerts { .. } => 9,
         }
+    }
+}
+
+impl From<NoMemory> for Exit {
+    ghost use Rattle.std.specs.Prelude.{◌≡◌};
+    ghost use Rattle.vx_cli.specs.declared.exit.Exit.TheVariants.{NoMemory};
+
+    ghost from_gives = { λ _ exit. exit ≡ NoMemory };
+
+    fn from(_cause: NoMemory) -> Exit {
+        Exit::NoMemory
     }
 }

@@ -1,0 +1,11 @@
+use Rattle.std.proofs.Common.{◌≤◌, IsTrue}
+use Rattle.vx_desk.specs.declared.device.Slot.TheVariants.{Feed}
+use Rattle.vx_cli.specs.Failures.{KeepsSlots, NoFailure}
+use Rattle.vx_cli.specs.Reading.{IsReadingFeed}
+use Rattle.vx_cli.proofs.feed.FeedReader.read_to.Given as goal
+
+abbrev pub invariant-loop : goal.invariant-loop
+invariant-loop g l = IsReadingFeed l.self × IsTrue (g.D.Desk.told l.desk Feed).is_open
+    × NoFailure (g.D.Desk.told l.initial.desk) (g.D.Desk.told l.desk)
+    × (l.self.count ≤ l.counter)
+    × KeepsSlots (g.D.Desk.told l.initial.desk) (g.D.Desk.told l.desk)
