@@ -1,3 +1,4 @@
+mod AheadLemmas
 mod ExitLemmas
 mod FailureLemmas
 mod OperandLemmas

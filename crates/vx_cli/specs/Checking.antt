@@ -7,7 +7,7 @@ use Rattle.vx_cli.specs.declared.answer.Tally.{Tally}
 use Rattle.vx_cli.specs.declared.check.Check.{Check}
 use Rattle.vx_cli.specs.Reading.{IsReadingFeed}
 
--- the feed was read no further than the lines that certificates named
+-- no line of the feed after those that certificates named was taken up
 pub record IsChecking (check : Check) : Type 0 where
   pub feed : IsReadingFeed check.feed
   pub reached : check.feed.count ≤ check.reached

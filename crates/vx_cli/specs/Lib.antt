@@ -3,7 +3,6 @@ pub mod Checking
 pub mod ExitText
 pub mod Exits
 pub mod Failures
-pub mod Numbering
 pub mod Operands
 pub mod Reading
 pub mod Requests

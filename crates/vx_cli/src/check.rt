@@ -107,7 +107,7 @@ impl Check {
             return Ok(Answer::No(Reason::Order));
         }
         self.reached = certificate.line;
-        self.feed.read_to(alloc, desk, certificate.line)?;
+        self.feed.read_to(desk, certificate.line)?;
         Ok(judge(self.feed.book(), &certificate))
     }
 
@@ -145,7 +145,7 @@ impl Check {
         ensures failures { StepFailures result (D.told desk.old) (D.told desk.new) }
         ensures slots { KeepsSlots (D.told desk.old) (D.told desk.new) }
     {
-        self.feed.read_to(alloc, desk, u64::MAX)?;
+        self.feed.read_to(desk, u64::MAX)?;
         let tally = self.tally;
         self.line.clear();
         push_end(alloc, &mut self.line, tally.yes + tally.no, tally)?;

@@ -2,42 +2,26 @@ ghost use Rattle.std.specs.Prelude.{◌≡◌, IfErr, None};
 ghost use Rattle.vx_cli.specs.Exits.{IsStop};
 ghost use Rattle.vx_cli.specs.Failures.{failed_calls};
 
+use crate::ahead::LinesAhead;
 use crate::exit::{Exit, FeedCause};
-use crate::lines::next_feed_line;
 use std::alloc::Global;
 use vx_check::PlainBook;
-use vx_desk::{Desk, LineReader, Slot};
-use vx_feed::limits::LINE_LEN_MAX;
-use vx_feed::{Event, FeedFault, Order, read_event};
+use vx_desk::{Desk, Slot};
+use vx_feed::{Event, Order};
 use vx_num::NoMemory;
 
 /// The feed as `check` reads it, line by line, with what is known after the lines read so far.
 #[derive(Drop)]
 pub(crate) struct FeedReader {
-    lines: LineReader,
+    ahead: LinesAhead,
     order: Order,
     book: PlainBook,
-    /// How many lines were read.
+    /// How many lines were taken up.
     count: u64,
     /// The last line that was read is an END line.
     has_end: bool,
     /// There is no line after the last one.
     is_over: bool,
-}
-
-/// Reads a line as the next event of the feed.
-fn read_line(alloc: Global, bytes: &[u8], order: &Order, number: u64) -> Result<Event, Exit>
-    ensures stops { IfErr result IsStop }
-    ensures cause { IfErr result (λ exit. failed_calls exit ≡ None) }
-{
-    match read_event(alloc, bytes, order) {
-        Ok(event) => Ok(event),
-        Err(FeedFault::NoMemory) => Err(Exit::NoMemory),
-        Err(fault) => Err(Exit::BadFeed {
-            line: number,
-            cause: FeedCause::Event(fault),
-        }),
-    }
 }
 
 impl FeedReader {
@@ -52,7 +36,7 @@ impl FeedReader {
         ensures count { IfOk result (λ feed. feed.count ≡ 0) }
     {
         Ok(FeedReader {
-            lines: LineReader::new(alloc, Slot::Feed, LINE_LEN_MAX)?,
+            ahead: LinesAhead::new(alloc)?,
             order: Order::new(alloc)?,
             book: PlainBook::new(alloc)?,
             count: 0,
@@ -68,7 +52,7 @@ impl FeedReader {
 
     /// Takes one more event, of the line with this number.
     fn push(&mut self, event: Event, number: u64) -> Result<(), NoMemory>
-        ensures lines { self.new.lines ≡ self.old.lines }
+        ensures ahead { self.new.ahead ≡ self.old.ahead }
         ensures count { OnOk result (self.new.count ≡ number) }
     {
         self.order.note(&event)?;
@@ -97,7 +81,7 @@ impl FeedReader {
     }
 
     /// Reads one more line, or finds that there is none.
-    fn read_next<D: Desk>(&mut self, alloc: Global, desk: &mut D) -> Result<(), Exit>
+    fn read_next<D: Desk>(&mut self, desk: &mut D) -> Result<(), Exit>
         requires reading { IsReadingFeed self.old }
         requires open { IsTrue (D.told desk.old Slot.Feed).is_open }
         ensures reading { OnOk result (IsReadingFeed self.new) }
@@ -106,11 +90,12 @@ impl FeedReader {
         ensures failures { StepFailures result (D.told desk.old) (D.told desk.new) }
         ensures slots { KeepsSlots (D.told desk.old) (D.told desk.new) }
     {
-        let Some(line) = next_feed_line(&mut self.lines, desk)? else {
+        self.ahead.read_on(desk)?;
+        let number = self.count.saturating_add(1);
+        let Some(event) = self.ahead.take(&self.order, number)? else {
             return self.end();
         };
-        let event = read_line(alloc, self.lines.bytes(&line), &self.order, line.number)?;
-        match self.push(event, line.number) {
+        match self.push(event, number) {
             Ok(()) => Ok(()),
             Err(NoMemory) => Err(Exit::NoMemory),
         }
@@ -118,12 +103,7 @@ impl FeedReader {
 
     /// Reads on until so many lines are read, or to the end of the feed.
     #[tactic(auto, using(crate::proofs::FailureLemmas::failures_trans))]
-    pub(crate) fn read_to<D: Desk>(
-        &mut self,
-        alloc: Global,
-        desk: &mut D,
-        count: u64,
-    ) -> Result<(), Exit>
+    pub(crate) fn read_to<D: Desk>(&mut self, desk: &mut D, count: u64) -> Result<(), Exit>
         requires reading { IsReadingFeed self.old }
         requires ahead { self.old.count ≤ count }
         requires open { IsTrue (D.told desk.old Slot.Feed).is_open }
@@ -137,7 +117,7 @@ impl FeedReader {
             if self.is_over {
                 return Ok(());
             }
-            self.read_next(alloc, desk)?;
+            self.read_next(desk)?;
         }
         Ok(())
     }

@@ -1,6 +1,7 @@
 //! The commands of `vixcert`: their words, what they send, and the exit that each run ends in.
 #![tactic(auto)]
 
+mod ahead;
 mod answer;
 mod check;
 mod complaint;

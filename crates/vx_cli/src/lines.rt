@@ -1,41 +1,10 @@
 ghost use Rattle.std.specs.Prelude.{◌≡◌, IsTrue, IfErr, IfOk};
 ghost use Rattle.vx_desk.specs.Told.{ChangesOnly};
 ghost use Rattle.vx_cli.specs.Exits.{IsStop};
-ghost use Rattle.vx_cli.specs.Numbering.{NumbersNext};
 ghost use Rattle.vx_cli.specs.Failures.{StepFailures, KeepsSlots};
 
-use crate::exit::{Exit, FeedCause, LineCause};
+use crate::exit::{Exit, LineCause};
 use vx_desk::{Desk, Line, LineReader, ReadFault, Slot};
-
-/// The next line of the feed.
-pub(crate) fn next_feed_line<D: Desk>(
-    lines: &mut LineReader,
-    desk: &mut D,
-) -> Result<Option<Line>, Exit>
-    requires slot { lines.old.slot ≡ Slot.Feed }
-    requires open { IsTrue (D.told desk.old Slot.Feed).is_open }
-    ensures stops { IfErr result IsStop }
-    ensures failures { StepFailures result (D.told desk.old) (D.told desk.new) }
-    ensures slots { KeepsSlots (D.told desk.old) (D.told desk.new) }
-    ensures others { ChangesOnly Slot.Feed (D.told desk.old) (D.told desk.new) }
-    ensures names { D.holds desk.new ≡ D.holds desk.old }
-    ensures reader { (lines.new.slot ≡ lines.old.slot) × (lines.new.limit ≡ lines.old.limit) }
-    ensures number { IfOk result (NumbersNext lines.old lines.new) }
-    ensures last { IfOk result (λ line. lines.new.last ≡ line) }
-{
-    match lines.next(desk) {
-        Ok(line) => Ok(line),
-        Err(ReadFault::Device) => Err(Exit::ReadFault { slot: Slot::Feed }),
-        Err(ReadFault::LineTooLong { number }) => Err(Exit::BadFeed {
-            line: number,
-            cause: FeedCause::TooLong,
-        }),
-        Err(ReadFault::NoEol { number }) => Err(Exit::BadFeed {
-            line: number,
-            cause: FeedCause::NoEol,
-        }),
-    }
-}
 
 /// The next certificate line.
 pub(crate) fn next_cert_line<D: Desk>(
