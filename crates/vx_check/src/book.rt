@@ -41,7 +41,7 @@ impl PlainBook {
         })
     }
 
-    /// Takes the next event, which is lawful next. After a refusal the book is unchanged.
+    /// Takes the next event. After a refusal the lines, the day, the tick and the expiries are as before.
     pub fn push(&mut self, e: Event) -> Result<(), NoMemory>
         ensures taken { (events : List Event) → AgreesOnDates self.old events → IsLawfulNext events e → OnOk result (AgreesOnDates self.new (events ++ e ∷ [])) }
         ensures refused { OnErr result (SameDates self.old self.new) }
