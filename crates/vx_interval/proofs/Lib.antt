@@ -4,3 +4,4 @@ pub mod Enclosures
 pub mod Squares
 pub mod Widths
 pub mod Ranges
+pub mod Insides

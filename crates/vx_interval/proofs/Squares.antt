@@ -49,7 +49,7 @@ scaled_square : (a n : ℤ) → (a *ℤ n) *ℤ (a *ℤ n) ≡ (a *ℤ a) *ℤ (
 scaled_square a n = mul_swap a n a n
 
 -- lo * n ≤ X ≤ hi * n: the square of X is between the least and the greatest square, times n * n
-square_above : (x : Ends) (n X : ℤ) → pos 0 ≤ℤ n → (x.lo *ℤ n) ≤ℤ X → X ≤ℤ (x.hi *ℤ n) → (least_square x *ℤ (n *ℤ n)) ≤ℤ (X *ℤ X)
+pub square_above : (x : Ends) (n X : ℤ) → pos 0 ≤ℤ n → (x.lo *ℤ n) ≤ℤ X → X ≤ℤ (x.hi *ℤ n) → (least_square x *ℤ (n *ℤ n)) ≤ℤ (X *ℤ X)
 square_above x n X hn low high =
     let nn = square_nonneg n in
     let least = least_is_least x in
@@ -65,7 +65,7 @@ square_above x n X hn low high =
     let none : pos 0 *ℤ (n *ℤ n) ≡ pos 0 = omega (arith, ints) in
     rw zero (omega (arith, ints, square_nonneg X, none))))
 
-square_below : (x : Ends) (n X : ℤ) → (x.lo *ℤ n) ≤ℤ X → X ≤ℤ (x.hi *ℤ n) → (X *ℤ X) ≤ℤ (greatest_square x *ℤ (n *ℤ n))
+pub square_below : (x : Ends) (n X : ℤ) → (x.lo *ℤ n) ≤ℤ X → X ≤ℤ (x.hi *ℤ n) → (X *ℤ X) ≤ℤ (greatest_square x *ℤ (n *ℤ n))
 square_below x n X low high =
     let nn = square_nonneg n in
     let greatest = greatest_is_greatest x in

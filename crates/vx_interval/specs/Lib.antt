@@ -1,3 +1,4 @@
 pub mod Ends
 pub mod Rounding
 pub mod Membership
+pub mod Laws

@@ -6,9 +6,11 @@
 #![tactic(auto)]
 
 mod interval;
+mod laws;
 mod product;
 
 pub use interval::Iv;
+pub use laws::{members_stay_in_wider, smaller_operations_lie_inside};
 pub use product::power_of_two;
 
 #[cfg(test)]
