@@ -77,3 +77,21 @@ fn figures_are_decided(rt: HostRuntime) {
         assert_eq!(rt; decide(lo, hi), want, "ends {lo} and {hi}");
     }
 }
+
+#[test]
+fn exponent_of_zero_gives_one_at_each_scale(rt: HostRuntime) {
+    let at_40 = exp_bounds::<40>(0, 52_560_000_000_000);
+    assert_eq!(rt; (at_40.value.lo(), at_40.value.hi()), (1 << 40, 1 << 40));
+    let at_62 = exp_bounds::<62>(0, 52_560_000_000_000);
+    assert_eq!(rt; (at_62.value.lo(), at_62.value.hi()), (1 << 62, 1 << 62));
+    let signed_at_40 = exp_signed::<40>(0, 52_560_000_000_000);
+    assert_eq!(rt;
+        (signed_at_40.value.lo(), signed_at_40.value.hi()),
+        (1 << 40, 1 << 40)
+    );
+    let signed_at_62 = exp_signed::<62>(0, 52_560_000_000_000);
+    assert_eq!(rt;
+        (signed_at_62.value.lo(), signed_at_62.value.hi()),
+        (1 << 62, 1 << 62)
+    );
+}
