@@ -1,4 +1,5 @@
 pub mod Digits
 pub mod Day
+pub mod Clock
 pub mod Minutes
 pub mod Terms
