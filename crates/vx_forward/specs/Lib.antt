@@ -1,0 +1,4 @@
+-- the pair, the forward's ends, and the level that they tell
+pub mod Pairs
+pub mod Forward
+pub mod Level

@@ -1,0 +1,1 @@
+//! The forward and its printed ends.
