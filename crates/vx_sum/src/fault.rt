@@ -1,0 +1,12 @@
+use thiserror::Error;
+
+/// Why a strip has no sum.
+#[derive(Clone, Copy, Debug, PartialEq, Eq, Error)]
+pub enum SumRefusal {
+    /// Memory was refused. It has no cause in the strip, and may come in place of any answer.
+    #[error("no memory")]
+    NoMemory,
+    /// The rounded-up ends add to more than 2, in units of `2^-P`.
+    #[error("the strip's sum {upper} is too large")]
+    StripTooLarge { upper: u128 },
+}

@@ -1,0 +1,66 @@
+//! The sum as the program holds it.
+
+ghost use Rattle.std.specs.Prelude.{◌≡◌, List, [], ◌∷◌, ◌++◌, OnOk, OnErr};
+
+use std::alloc::Global;
+use std::marker::Model;
+use vx_interval::Iv;
+use vx_num::NoMemory;
+
+/// The contribution of one row of a strip, in units of `2^-P`.
+#[derive(Clone, Copy, Debug, PartialEq, Eq)]
+pub struct SumRow {
+    /// Rounded down.
+    pub lo: u64,
+    /// Rounded up.
+    pub hi: u64,
+}
+
+/// The contributions of a strip's rows, in their order; contracts see the list of them.
+#[derive(Debug, Drop)]
+pub struct SumRows {
+    list: Vec<SumRow>,
+}
+
+impl Model for SumRows {
+    ghost use Rattle.std.specs.Prelude.{List};
+    ghost use Rattle.vx_sum.specs.declared.sum.SumRow.{SumRow};
+
+    ghost Value = { List SumRow };
+
+    ghost view = { λ rows. rows.list.items };
+}
+
+impl SumRows {
+    /// The empty list.
+    pub fn new(alloc: Global) -> SumRows
+        ensures { result ≡ [] }
+    {
+        SumRows {
+            list: Vec::new(alloc),
+        }
+    }
+
+    /// Puts a row last. After a refusal the list is unchanged.
+    pub fn push(&mut self, item: SumRow) -> Result<(), NoMemory>
+        ensures ok { OnOk result (self.new ≡ self.old ++ item ∷ []) }
+        ensures err { OnErr result (self.new ≡ self.old) }
+    {
+        self.list.push(item).map_err(|_| NoMemory)
+    }
+
+    /// The rows in order.
+    pub fn items(&self) -> &[SumRow]
+        ensures { result.now ≡ self.now }
+    {
+        self.list.as_slice()
+    }
+}
+
+/// What a strip's rows contribute, and the sum of it.
+#[derive(Debug, Drop)]
+pub struct StripSum<const P: u32> {
+    pub rows: SumRows,
+    /// From the sum of all low ends to the sum of all high ends.
+    pub total: Iv<P>,
+}
