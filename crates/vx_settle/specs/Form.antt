@@ -1,0 +1,64 @@
+-- What a line of a position says (the form is this project's own). A line's fields are the pieces between
+-- its commas, counted from 1: the contract, the quantity and the last price.
+use Rattle.std.specs.Prelude.{ℕ, ◌-◌, ◌==◌, ℤ, pos, neg_ℤ, List, [], length, drop, codes, bytes_eq, slice_index, slice_index_or, Option, Some, None, Result, Ok, Err, if◌then◌else◌}
+use Rattle.std.specs.List.{list_all}
+use Rattle.std.specs.Option.{option_map}
+use Rattle.std.specs.Result.{result_ok}
+use Rattle.vx_num.specs.Decimal.{decimal_of}
+use Rattle.vx_fields.specs.Lines.{fields_of_line, is_plain}
+use Rattle.vx_settle.specs.declared.fault.PositionFault.{PositionFault}
+use Rattle.vx_settle.specs.declared.fault.PositionFault.TheVariants as fault
+use Rattle.vx_settle.specs.declared.limits.TheConstants.{LAST_MAX, QUANTITY_MAX}
+use Rattle.vx_settle.specs.declared.position.Contract.{Contract}
+use Rattle.vx_settle.specs.declared.position.Contract.TheVariants.{Vx, Vxm}
+use Rattle.vx_settle.specs.declared.position.Position.{Position}
+
+-- a contract by its name
+abbrev pub contract_of_text : List ℕ → Option Contract
+contract_of_text text =
+    if bytes_eq text (codes "VX") then Some Vx
+    else (if bytes_eq text (codes "VXM") then Some Vxm else None)
+
+-- digits that are worth at most a million
+abbrev pub count_of_text : List ℕ → Option ℕ
+count_of_text text = result_ok (decimal_of text 0 QUANTITY_MAX)
+
+-- how many contracts, below zero after a `-`; 45 is the byte of `-`
+abbrev pub quantity_of_text : List ℕ → Option ℤ
+quantity_of_text text =
+    if slice_index text 0 == 45 then option_map (λ count. neg_ℤ (pos count)) (count_of_text (drop 1 text))
+    else option_map pos (count_of_text text)
+
+-- a price in points of at most 4 places, from 0 to 1,000 points, in ten-thousandths of a point
+abbrev pub last_of_text : List ℕ → Option ℕ
+last_of_text text = result_ok (decimal_of text 4 LAST_MAX)
+
+-- the position of three fields by what each says, or the first field that says nothing
+abbrev pub position_of_parts : Option Contract → Option ℤ → Option ℕ → Result Position PositionFault
+position_of_parts None _ _ = Err (fault.Field 1)
+position_of_parts (Some c) None _ = Err (fault.Field 2)
+position_of_parts (Some c) (Some n) None = Err (fault.Field 3)
+position_of_parts (Some c) (Some n) (Some price) = Ok (record { contract = c; quantity = n; last = price })
+
+-- the n-th field, from 1
+abbrev pub field : List (List ℕ) → ℕ → List ℕ
+field fields n = slice_index_or fields (n - 1) []
+
+-- the position of a line's fields, or else the first fault
+abbrev pub position_of_fields : List (List ℕ) → Result Position PositionFault
+position_of_fields f =
+    if length f == 3
+    then position_of_parts (contract_of_text (field f 1)) (quantity_of_text (field f 2)) (last_of_text (field f 3))
+    else Err fault.Fields
+
+-- the fault of a line that has no fields: a byte of it is not plain, or it is empty
+abbrev pub unsplit_fault : List ℕ → Option PositionFault
+unsplit_fault line =
+    if list_all is_plain line then (if length line == 0 then Some fault.Fields else None) else Some fault.Byte
+
+-- the position of a line, or else the first fault
+abbrev pub position_of_line : List ℕ → Result Position PositionFault
+position_of_line line =
+    if list_all is_plain line
+    then (if length line == 0 then Err fault.Fields else position_of_fields (fields_of_line line))
+    else Err fault.Byte
