@@ -1,0 +1,2 @@
+pub mod TermDayProofs
+pub mod FeedDayProofs

@@ -1,0 +1,2 @@
+pub mod TermDays
+pub mod FeedDays

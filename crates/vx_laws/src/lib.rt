@@ -1,0 +1,8 @@
+//! Laws that join the definitions of several crates, and worked days computed on the definitions.
+//!
+//! Each function does nothing: its clauses are the laws or the worked days.
+#![tactic(auto)]
+
+mod days;
+
+pub use days::{crossed_quote, sample_feed, terms_of_none, two_terms};
