@@ -1,0 +1,42 @@
+-- The answer for one term, as the bounded arithmetic gives it at a scale: a function of what is known of the term. This project's own.
+use Rattle.std.specs.Prelude.{◌≡◌, ℕ, ℤ, Some, None}
+use Rattle.vx_clock.specs.declared.terms.Expiry.{Expiry}
+use Rattle.vx_interval.specs.Ends.{Ends}
+use Rattle.vx_bounds.specs.Exponential.{signed_ends}
+use Rattle.vx_formula.specs.Term.{TermFacts, exponent}
+use Rattle.vx_forward.specs.declared.level.K0Answer.TheVariants as level
+use Rattle.vx_term.specs.declared.answer.TermRefusal.{TermRefusal}
+use Rattle.vx_term.specs.declared.answer.TermRefusal.TheVariants.{NoRate}
+use Rattle.vx_term.specs.declared.answer.TermRun.{TermRun}
+use Rattle.vx_term.specs.declared.answer.TermAnswer.{TermAnswer}
+use Rattle.vx_term.specs.declared.answer.TermAnswer.TheVariants.{Run, Refused, UndecidedForward}
+use Rattle.vx_term.specs.Exponential.{IsExpRun}
+use Rattle.vx_term.specs.Runs.{Says, RefusesRows, IsRunOfRows}
+
+-- the ends of the exponential at a rate over so many minutes
+abbrev pub exponential_ends : ℕ → ℤ → ℕ → Ends
+exponential_ends P rate minutes = let x = exponent rate minutes in signed_ends P x.top x.bottom
+
+-- a rate stands, and Q holds of the exponential's ends at it
+abbrev pub AtStandingRate : ℕ → TermFacts → (Ends → Type 0) → Type 0
+AtStandingRate P facts Q = (rate : ℤ) × (facts.rate ≡ Some rate) × Q (exponential_ends P rate facts.minutes)
+
+-- the term is refused for this reason
+abbrev pub RefusesTerm : ℕ → TermFacts → TermRefusal → Type 0
+RefusesTerm P facts NoRate = facts.rate ≡ None
+RefusesTerm P facts refusal = AtStandingRate P facts (λ e. RefusesRows P facts.rows e refusal)
+
+-- the run has the numbers of the term
+pub record IsRun (P : ℕ) (x : Expiry) (facts : TermFacts) (run : TermRun P) : Type 0 where
+  pub expiry_is : run.expiry ≡ x
+  pub minutes_are : run.minutes ≡ facts.minutes
+  pub rate_stands : facts.rate ≡ Some run.rate
+  pub exp_is : IsExpRun P (exponent run.rate run.minutes) run.exp
+  pub numbers_are : IsRunOfRows P facts.rows run.exp.value run
+
+-- the answer for the term of an expiry
+abbrev pub IsTermAnswer : (P : ℕ) → Expiry → TermFacts → TermAnswer P → Type 0
+IsTermAnswer P x facts (Run run) = IsRun P x facts run
+IsTermAnswer P x facts (Refused refusal) = RefusesTerm P facts refusal
+IsTermAnswer P x facts (UndecidedForward strike lo hi) =
+    AtStandingRate P facts (λ e. Says P facts.rows e (level.Straddle strike lo hi))

@@ -1,0 +1,5 @@
+pub mod Exponential
+pub mod Variance
+pub mod Index
+pub mod Runs
+pub mod Answer
