@@ -1,0 +1,4 @@
+//! What a certificate states of a term's run.
+//!
+//! Today this crate has the definitions; the calls come with the calculator.
+#![tactic(auto)]

@@ -1,0 +1,3 @@
+pub mod Figures
+pub mod Joined
+pub mod Ticks
