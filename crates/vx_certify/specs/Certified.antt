@@ -1,6 +1,7 @@
 -- What a certificate states of the calculator's numbers: the numbers themselves. This project's own format.
 use Rattle.std.specs.Prelude.{ℕ, ℤ, List, [], ◌∷◌}
-use Rattle.vx_interval.specs.Ends.{Ends}
+use Rattle.vx_interval.specs.Ends.{Ends, unit}
+use Rattle.vx_bounds.specs.Root.{IsGreatestRoot, IsLeastRoot}
 use Rattle.vx_strip.specs.declared.strip.StripRow.{StripRow}
 use Rattle.vx_sum.specs.declared.sum.SumRow.{SumRow}
 use Rattle.vx_forward.specs.declared.pairs.Pair.{Pair}
@@ -48,3 +49,8 @@ certified_term run = record {
 -- a figure in cents, the square that it comes from, and the index's ends in millionths of a point
 abbrev pub certified_figure : Ends → ℤ → ℤ → ℕ → CertFigure
 certified_figure square low high figure = record { x = certified_ends square; lo = low; hi = high; cents = figure }
+
+-- lo and hi are the ends of the index, in millionths of a point, where its square over 100 lies between these ends in units of 2^-P
+pub record AreIndexEnds (P : ℕ) (square : Ends) (lo hi : ℤ) : Type 0 where
+  pub low : IsGreatestRoot (unit P) square.lo lo
+  pub high : IsLeastRoot (unit P) square.hi hi
