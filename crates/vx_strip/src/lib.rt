@@ -6,7 +6,10 @@
 
 mod fault;
 pub mod limits;
+mod selection;
 pub mod strip;
+mod walk;
 
 pub use fault::StripRefusal;
+pub use selection::select;
 pub use strip::{Strip, StripRow, StripRows};

@@ -1,6 +1,6 @@
 //! The strip as the program holds it.
 
-ghost use Rattle.std.specs.Prelude.{◌≡◌, List, [], ◌∷◌, ◌++◌, OnOk, OnErr};
+ghost use Rattle.std.specs.Prelude.{◌≡◌, List, [], ◌∷◌, ◌++◌, IfOk, OnOk, OnErr};
 
 use std::alloc::Global;
 use std::marker::Model;
@@ -40,6 +40,14 @@ impl StripRows {
         StripRows {
             list: Vec::new(alloc),
         }
+    }
+
+    /// The empty list, with the memory of so many rows.
+    pub(crate) fn with_room(alloc: Global, count: usize) -> Result<StripRows, NoMemory>
+        ensures { IfOk result (λ rows. rows ≡ []) }
+    {
+        let list = Vec::with_capacity(alloc, count).map_err(|_| NoMemory)?;
+        Ok(StripRows { list })
     }
 
     /// Puts a row last. After a refusal the list is unchanged.
