@@ -3,3 +3,4 @@ pub mod Best
 pub mod DigitFacts
 pub mod DigitText
 pub mod DayNumbers
+pub mod DayTexts

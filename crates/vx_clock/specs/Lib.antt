@@ -3,3 +3,4 @@ pub mod Day
 pub mod Clock
 pub mod Minutes
 pub mod Terms
+pub mod DayText

@@ -1,6 +1,7 @@
 ghost use Rattle.std.specs.Prelude.{◌≡◌, ◌≤◌, IfOk};
 ghost use Rattle.jiff_core.specs.Date.{epoch_day};
 ghost use Rattle.vx_clock.specs.Day.{IsDayInRange, day_of_date, day_of_text};
+ghost use Rattle.vx_clock.specs.DayText.{day_text};
 
 use crate::digits::{self, digit};
 use crate::limits::{YEAR_MAX, YEAR_MIN};
@@ -93,7 +94,8 @@ fn calendar_date(day: DayNo) -> civil::Date
 /// The text `yyyy-mm-dd` of a day of the years 2000 to 2099. [`read_day`] reads it back.
 pub fn write_day(day: DayNo) -> [u8; 10]
     requires { IsDayInRange day }
-    ensures { day_of_text result ≡ Ok day }
+    ensures text { result ≡ day_text day }
+    ensures read_back { day_of_text result ≡ Ok day }
 {
     let (year, month, day) = date_of(day);
     [

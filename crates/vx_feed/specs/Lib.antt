@@ -9,3 +9,4 @@ pub mod Form
 pub mod Feed
 pub mod Noted
 pub mod Next
+pub mod Written

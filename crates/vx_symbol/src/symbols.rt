@@ -1,6 +1,7 @@
 ghost use Rattle.std.specs.Prelude.{◌≡◌, ◌≤◌, length, slice_index, IfOk, IfSome};
 ghost use Rattle.vx_clock.specs.Day.{IsDayInRange};
 ghost use Rattle.vx_symbol.specs.Symbol.{IsSymbolInRange, IsStrikeInRange, root_text, side_byte, root_of, date_of, side_of, strike_of, symbol_of_text};
+ghost use Rattle.vx_symbol.specs.SymbolText.{symbol_text};
 
 use crate::limits::{STRIKE_MAX, STRIKE_MIN, SYMBOL_LEN};
 use thiserror::Error;
@@ -75,7 +76,8 @@ pub fn read_symbol(bytes: &[u8]) -> Result<Symbol, SymbolFault>
 /// The day is of the years 2000 to 2099, and the strike from 100 to 50,000 points.
 pub fn write_symbol(s: &Symbol) -> [u8; SYMBOL_LEN]
     requires { IsSymbolInRange s.now }
-    ensures { symbol_of_text result ≡ Ok s.now }
+    ensures text { result ≡ symbol_text s.now }
+    ensures read_back { symbol_of_text result ≡ Ok s.now }
 {
     let (year, month, day) = date_of(s.date);
     let year = year - YEAR_MIN;

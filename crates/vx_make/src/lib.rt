@@ -1,0 +1,8 @@
+//! Sample feeds, for trials and for measuring: a day of quotes of two terms, drawn by a small generator
+//! whose numbers depend on a start number alone. The definitions stand in `specs/`.
+#![tactic(auto)]
+
+mod drawing;
+pub mod limits;
+
+pub use drawing::draw;
