@@ -1,2 +1,3 @@
 pub mod TermDays
 pub mod FeedDays
+pub mod NextEvents

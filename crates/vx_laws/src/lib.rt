@@ -4,5 +4,9 @@
 #![tactic(auto)]
 
 mod days;
+mod feeds;
 
 pub use days::{crossed_quote, sample_feed, terms_of_none, two_terms};
+pub use feeds::{
+    faults_by_cause, first_cause_is_answered, lawful_lists, lawful_prefixes, order_decides,
+};

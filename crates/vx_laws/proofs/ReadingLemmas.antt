@@ -1,0 +1,103 @@
+-- What a text's reading says: lawful events, and the line after them where it is bad.
+use Rattle.std.proofs.Common.{◌≡◌, ◌∙◌, sym, ap, refl, ℕ, ◌+◌, Bool, true, false, cond, not, List, [], ◌∷◌, ◌++◌, length, Option, Some, None, Result, Ok, Err}
+use Rattle.std.specs.Prelude.{nat_lt, ◌==◌}
+use Rattle.std.specs.List.{list_all, list_any, slice_split}
+use Rattle.vx_fields.specs.Lines.{fields_of_line, is_plain, line_feed}
+use Rattle.vx_feed.specs.declared.events.Event.{Event}
+use Rattle.vx_feed.specs.declared.faults.FeedFault.{FeedFault}
+use Rattle.vx_feed.specs.declared.faults.FeedFault.TheVariants as fault
+use Rattle.vx_feed.specs.declared.limits.TheConstants.{LINE_LEN_MAX}
+use Rattle.vx_feed.specs.Form.{event_of_fields}
+use Rattle.vx_feed.specs.Feed.{event_unless, event_in_order, next_event, event_of_line, BadCause, too_long, no_eol, missing_end, BadLine, Reading, stopped_at, with_cause, event_or_cause, reading_at_end, reading_after, is_last, reading_from, reading_of}
+use Rattle.vx_feed.specs.Order.{is_end, order_fault, IsLawfulNext, AreLawful}
+use Rattle.vx_laws.specs.NextEvents.{PrefixIsLawful, BadLineFollowsPrefix, BadLineIsOne, LawfulFeedEnds}
+use Rattle.vx_laws.proofs.EventRanges.{past_fault, past_test, event_in_range}
+use Rattle.vx_laws.proofs.LawfulLists.{lawful_with_one_more}
+
+-- ---- the event of a line may come next
+
+unless_ok : (o : Option FeedFault) (x e : Event) → event_unless o x ≡ Ok e → (o ≡ None) × (x ≡ e)
+unless_ok None x e h = (refl, cc)
+unless_ok (Some f) x e h = absurd cc
+
+in_order_ok : (before : List Event) (r : Result Event FeedFault) (e : Event) → event_in_order before r ≡ Ok e → (order_fault before e ≡ None) × (r ≡ Ok e)
+in_order_ok before (Err f) e h = absurd cc
+in_order_ok before (Ok x) e h =
+    let found = unless_ok (order_fault before x) x e h in
+    (ap (order_fault before) (sym found.1) ∙ found.0, ap Ok found.1)
+
+next_is_lawful : (before : List Event) (fields : List (List ℕ)) (e : Event) → next_event before fields ≡ Ok e → IsLawfulNext before e
+next_is_lawful before fields e h =
+    let found = in_order_ok before (event_of_fields fields) e h in
+    record { in_range = event_in_range fields e found.1; in_order = found.0 }
+
+cause_ok : (r : Result Event FeedFault) (e : Event) → with_cause r ≡ Ok e → r ≡ Ok e
+cause_ok (Ok x) e h = let same : x ≡ e = cc in ap Ok same
+cause_ok (Err f) e h = absurd cc
+
+line_is_lawful : (before : List Event) (line : List ℕ) (e : Event) → event_or_cause before line ≡ Ok e → IsLawfulNext before e
+line_is_lawful before line e h =
+    let split = cond (list_all is_plain line) (next_event before (fields_of_line line)) (Err fault.Byte) in
+    let short = past_fault (nat_lt LINE_LEN_MAX (length line)) too_long (with_cause (event_of_line before line)) e h in
+    let filled = past_fault (length line == 0) fault.Kind split e (cause_ok (event_of_line before line) e short.1) in
+    let plain = past_test (list_all is_plain line) fault.Byte (next_event before (fields_of_line line)) e filled.1 in
+    next_is_lawful before (fields_of_line line) e plain.1
+
+-- ---- readings
+
+-- its events are lawful, a bad line is the one after them, and without one an END line is among them
+record IsTold (r : Reading) : Type 0 where
+  lawful : AreLawful r.events
+  follows : (bad : BadLine) → r.bad ≡ Some bad → bad.line ≡ length r.events + 1
+  ends : r.bad ≡ None → list_any is_end r.events ≡ true
+
+stop_told : (before : List Event) (cause : BadCause) → AreLawful before → IsTold (stopped_at before cause)
+stop_told before cause h =
+    let here : BadLine = record { line = length before + 1; cause = cause } in
+    record {
+      lawful = h;
+      follows = λ bad e. let same : here ≡ bad = cc in sym (ap (λ (b : BadLine). b.line) same);
+      ends = λ e. absurd cc;
+    }
+
+end_told : (before : List Event) (c : Bool) → list_any is_end before ≡ c → AreLawful before → IsTold (cond c (record { events = before; bad = None }) (stopped_at before missing_end))
+end_told before true e h = record { lawful = h; follows = λ bad none. absurd cc; ends = λ none. e }
+end_told before false e h = stop_told before missing_end h
+
+either_told : (c : Bool) (a b : Reading) → IsTold a → IsTold b → IsTold (cond c a b)
+either_told true a b h k = h
+either_told false a b h k = k
+
+at_end_told : (before : List Event) (rest : List ℕ) → AreLawful before → IsTold (reading_at_end before rest)
+at_end_told before rest h =
+    let ended : Reading = cond (list_any is_end before) (record { events = before; bad = None }) (stopped_at before missing_end) in
+    either_told (nat_lt LINE_LEN_MAX (length rest)) (stopped_at before too_long) (cond (not (length rest == 0)) (stopped_at before no_eol) ended)
+    (stop_told before too_long h)
+    (either_told (not (length rest == 0)) (stopped_at before no_eol) ended (stop_told before no_eol h) (end_told before (list_any is_end before) refl h))
+
+after_told : (more : List Event → Reading) (before : List Event) (r : Result Event BadCause) → AreLawful before
+    → ((e : Event) → r ≡ Ok e → IsLawfulNext before e) → ((events : List Event) → AreLawful events → IsTold (more events)) → IsTold (reading_after more before r)
+after_told more before (Ok e) h next told = told (before ++ e ∷ []) (lawful_with_one_more before e h (next e refl))
+after_told more before (Err cause) h next told = stop_told before cause h
+
+from_told : (pieces : List (List ℕ)) (before : List Event) → AreLawful before → IsTold (reading_from before pieces)
+from_told [] before h = at_end_told before [] h
+from_told (piece ∷ pieces) before h =
+    either_told (is_last pieces) (reading_at_end before piece) (reading_after (λ events. reading_from events pieces) before (event_or_cause before piece))
+    (at_end_told before piece h)
+    (after_told (λ events. reading_from events pieces) before (event_or_cause before piece) h (line_is_lawful before piece) (from_told pieces))
+
+told : (text : List ℕ) → IsTold (reading_of text)
+told text = from_told (slice_split (λ byte. byte == line_feed) text) [] tt
+
+pub prefix_is_lawful : PrefixIsLawful
+prefix_is_lawful text = (told text).lawful
+
+pub bad_line_follows_prefix : BadLineFollowsPrefix
+bad_line_follows_prefix text bad h = (told text).follows bad h
+
+pub bad_line_is_one : BadLineIsOne
+bad_line_is_one text a b h k = let both : Some a ≡ Some b = sym h ∙ k in cc
+
+pub lawful_feed_ends : LawfulFeedEnds
+lawful_feed_ends text h = ((told text).lawful, (told text).ends h)
