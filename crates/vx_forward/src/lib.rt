@@ -10,4 +10,4 @@ mod level;
 mod pairs;
 
 pub use level::K0Answer;
-pub use pairs::Pair;
+pub use pairs::{Pair, closest};
