@@ -7,7 +7,7 @@ pub const SCALE: u32 = 62;
 pub const FIRST_SCALE: u32 = 60;
 
 /// An end of a forward is at most `2^(P + 27)` in absolute value, at a scale `P`.
-pub const FORWARD_BITS: u32 = 27;
+pub const FORWARD_BITS: u32 = vx_formula::limits::FORWARD_BITS;
 
 /// The greatest excess of the forward over the level that a certificate may state.
 pub const EXCESS_MAX: u32 = 2;

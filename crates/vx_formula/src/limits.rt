@@ -12,6 +12,10 @@ pub const RATE_UNITS: u32 = 100_000_000;
 /// How many units of `10^-12` point make a thousandth of a point.
 pub const FORWARD_UNITS: u32 = 1_000_000_000;
 
+/// An end of a forward is at most `2^27` thousandths of a point in absolute value: `2^(P + 27)` at a
+/// scale `P`.
+pub const FORWARD_BITS: u32 = 27;
+
 /// A cent, a hundredth of an index point, in millionths of a point.
 pub const CENT: u32 = 10_000;
 

@@ -1,5 +1,5 @@
 -- The order in which pairs are taken is reflexive and transitive, and the best row's pair is the closest pair.
-use Rattle.std.proofs.Common.{◌≡◌, ℕ, ◌≤◌, true, List, [], ◌∷◌, length, get_or, slice_get, Option, Some, None, IfSome, IfNone, IsSomeAnd, All, false, refl, sym, ◌∙◌, ap, subst, inl, inr, arith, rules}
+use Rattle.std.proofs.Common.{◌≡◌, ℕ, true, List, [], ◌∷◌, length, get_or, slice_get, Option, Some, None, IfSome, IfNone, IsSomeAnd, All, false, refl, ◌∙◌, subst, inl, inr, arith, rules}
 use Rattle.std.specs.List.{filter}
 use Rattle.std.proofs.lemmas.Option.{slice_get-get_or}
 use Rattle.vx_symbol.specs.declared.rows.Price.{Price}
@@ -65,8 +65,8 @@ closest_row rows b listed live first =
     record {
       among = contains_from_in (live_pairs rows) (pair_of b) (map_in pair_of (filter is_both_live rows) b (filter_in is_both_live rows b listed live));
       closest = all_from_in (IsAsClose (pair_of b)) (live_pairs rows) (λ p h.
-      let row = live_row rows p h in
-      subst (IsAsClose (pair_of b)) row.3 (first row.0 row.1 row.2));
+          let row = live_row rows p h in
+          subst (IsAsClose (pair_of b)) row.3 (first row.0 row.1 row.2));
     }
 
 -- what the place says after all rows

@@ -1,8 +1,9 @@
 -- What two printed ends of a forward, in units of 10^-12 point, say of the level. This project's own.
 use Rattle.std.specs.Prelude.{◌≡◌, ℕ, ◌≤◌, ℤ, pos, ◌*ℤ◌, ◌≤ℤ◌, ◌<ℤ◌, List, Some, slice_get}
+use Rattle.vx_num.specs.Fraction.{Fraction, whole, ◌<ᶠ◌}
 use Rattle.vx_symbol.specs.declared.rows.StrikeRow.{StrikeRow}
 use Rattle.vx_formula.specs.declared.limits.TheConstants.{FORWARD_UNITS}
-use Rattle.vx_formula.specs.Level.{IsListed}
+use Rattle.vx_formula.specs.Level.{IsListed, IsGreatestBelow}
 use Rattle.vx_formula.specs.Refusal.{HasNoneAbove}
 use Rattle.vx_formula.specs.Undecided.{StrikeStraddles}
 use Rattle.vx_forward.specs.declared.level.K0Answer.{K0Answer}
@@ -43,3 +44,14 @@ IsK0Answer rows lo hi (At place) = (row : StrikeRow) × IsLevelRow rows lo hi pl
 IsK0Answer rows lo hi NoStrikeBelow = HasNoneBetween rows lo hi × HasNoneAtMost rows lo
 IsK0Answer rows lo hi (NoStrikeAbove place) = (row : StrikeRow) × IsLevelRow rows lo hi place row × HasNoneAbove rows row.strike
 IsK0Answer rows lo hi (Straddle strike low high) = IsLowestBetween rows lo hi strike × (low ≡ lo) × (high ≡ hi)
+
+-- the strike of the row at the place is the greatest listed one that is at most the forward
+abbrev pub IsLevelAtPlace : List StrikeRow → Fraction → ℕ → Type 0
+IsLevelAtPlace rows forward place = (row : StrikeRow) × (slice_get rows place ≡ Some row) × IsGreatestBelow rows forward row.strike
+
+-- what an answer says of a forward between the ends, in thousandths of a point
+abbrev pub SaysOfForward : List StrikeRow → Fraction → K0Answer → Type 0
+SaysOfForward rows forward (At place) = IsLevelAtPlace rows forward place
+SaysOfForward rows forward NoStrikeBelow = (strike : ℕ) → IsListed rows strike → forward <ᶠ whole (pos strike)
+SaysOfForward rows forward (NoStrikeAbove place) = IsLevelAtPlace rows forward place
+SaysOfForward rows forward (Straddle _ _ _) = Unit {0}

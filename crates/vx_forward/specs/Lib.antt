@@ -2,3 +2,5 @@
 pub mod Pairs
 pub mod Forward
 pub mod Level
+-- what holds of them
+pub mod Laws

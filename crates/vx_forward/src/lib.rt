@@ -6,8 +6,15 @@
 #![tactic(auto)]
 
 mod forwards;
+mod laws;
 mod level;
+pub mod limits;
 mod pairs;
 
-pub use level::K0Answer;
+pub use forwards::{forward, forward_ends};
+pub use laws::{
+    answer_holds_of_forwards, answer_is_one, forward_is_enclosed, level_lies_below_forward,
+    printed_ends_are_equal, printed_ends_are_near, printed_ends_lie_around,
+};
+pub use level::{K0Answer, find_k0};
 pub use pairs::{Pair, closest};

@@ -1,0 +1,5 @@
+use Rattle.vx_forward.proofs.Widths.{ends_are_equal}
+use Rattle.vx_forward.proofs.laws.printed_ends_are_equal.Goals as goal
+
+pub returns : goal.returns
+returns c = ends_are_equal
