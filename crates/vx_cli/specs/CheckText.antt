@@ -1,6 +1,7 @@
 -- The output lines of `check`. Each line ends with LF (10). This project's own format.
 use Rattle.std.specs.Prelude.{ℕ, ◌+◌, ◌/◌, ◌%◌, [], ◌∷◌, ◌++◌, codes}
 use Rattle.vx_num.specs.Written.{decimal_text}
+use Rattle.vx_clock.specs.Clock.{clock_text}
 use Rattle.vx_cli.specs.ExitText.{Text, field_word}
 use Rattle.vx_cli.specs.declared.answer.Answer.{Answer}
 use Rattle.vx_cli.specs.declared.answer.Answer.TheVariants.{Yes, No}
@@ -9,11 +10,6 @@ use Rattle.vx_cli.specs.declared.answer.Figure.TheVariants.{Level, Cents}
 use Rattle.vx_cli.specs.declared.answer.Reason.{Reason}
 use Rattle.vx_cli.specs.declared.answer.Reason.TheVariants as reason
 use Rattle.vx_cli.specs.declared.answer.Tally.{Tally}
-
--- a minute of the day as `hh:mm`; 48 is the byte of `0` and 58 that of `:`
-abbrev pub clock_text : ℕ → Text
-clock_text time = let hour = time / 60 in let minute = time % 60 in
-    (48 + hour / 10) ∷ (48 + hour % 10) ∷ 58 ∷ (48 + minute / 10) ∷ (48 + minute % 10) ∷ []
 
 -- a level has three places, an index two
 abbrev pub figure_text : Figure → Text

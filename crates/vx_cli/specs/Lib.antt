@@ -1,10 +1,13 @@
+pub mod CheckRuns
 pub mod CheckText
 pub mod Checking
 pub mod ExitText
 pub mod Exits
 pub mod Failures
 pub mod Operands
+pub mod OutputLines
 pub mod Reading
+pub mod ReplayText
 pub mod Requests
 pub mod Runs
 pub mod Words

@@ -1,9 +1,11 @@
 ghost use Rattle.std.specs.Prelude.{◌≡◌, ◌≤◌, ◌++◌, ◌<◌, OnOk};
-ghost use Rattle.vx_cli.specs.CheckText.{answer_text, clock_text, end_text, figure_text, line_start, no_text, reason_text, yes_text};
+ghost use Rattle.vx_clock.specs.Clock.{clock_text};
+ghost use Rattle.vx_cli.specs.CheckText.{answer_text, end_text, figure_text, line_start, no_text, reason_text, yes_text};
 
 use crate::complaint::push_field_word;
 use crate::text::{push_number, push_text};
 use std::alloc::Global;
+use vx_clock::write_clock;
 use vx_num::{NoMemory, write_decimal};
 
 /// What `check` answers to one certificate line.
@@ -39,20 +41,11 @@ pub(crate) enum Reason {
     NotYet,
 }
 
-/// Appends a time of the day, as `hh:mm`.
+/// Appends a minute of the day, as `hh:mm`.
 fn push_clock(line: &mut Vec<u8>, time: u16) -> Result<(), NoMemory>
     ensures { OnOk result (line.new.items ≡ line.old.items ++ clock_text time) }
 {
-    let hour = time / 60;
-    let minute = time % 60;
-    let text = [
-        48 + (hour / 10) as u8,
-        48 + (hour % 10) as u8,
-        58,
-        48 + (minute / 10) as u8,
-        48 + (minute % 10) as u8,
-    ];
-    line.extend_from_slice(&text).map_err(|_| NoMemory)
+    line.extend_from_slice(&write_clock(time)).map_err(|_| NoMemory)
 }
 
 fn push_figure(alloc: Global, line: &mut Vec<u8>, figure: Figure) -> Result<(), NoMemory>
