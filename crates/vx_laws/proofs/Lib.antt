@@ -5,3 +5,6 @@ pub mod OrderExamples
 pub mod LawfulLists
 pub mod EventRanges
 pub mod ReadingLemmas
+pub mod BestOf
+pub mod StrikeCases
+pub mod EndLemmas

@@ -1,3 +1,4 @@
 pub mod TermDays
 pub mod FeedDays
 pub mod NextEvents
+pub mod StrikesByEnds

@@ -1,0 +1,19 @@
+//! That a term, and a tick, has a refusal, an undecided forward or a level. Each function does nothing:
+//! its clauses are the laws.
+
+ghost use Rattle.vx_laws.specs.StrikesByEnds.{StrikesLieOneWay, LowestBetweenIsOne, GreatestAtMostIsOne, AllAboveIsBelowAll, GreatestAtMostIsLevel, EndsDecideOrNot};
+
+/// By two ends the listed strikes lie in just one of three ways: one lies between them, or all are above,
+/// or there is a greatest one at most the low end with all others above the high end.
+pub fn strikes_lie_one_way()
+    ensures just_one { StrikesLieOneWay }
+    ensures lowest { LowestBetweenIsOne }
+    ensures greatest { GreatestAtMostIsOne }
+{}
+
+/// Narrow ends around a forward leave it undecided, or every listed strike is above it, or there is a level.
+pub fn ends_decide_or_not()
+    ensures below_all { AllAboveIsBelowAll }
+    ensures level { GreatestAtMostIsLevel }
+    ensures either { EndsDecideOrNot }
+{}
