@@ -241,6 +241,7 @@ text_of_date y m d year month day =
 
 -- the text of a day is read back
 pub read_back_day : (day : DayNo) → IsDayInRange day → day_of_text (day_text day) ≡ Ok day
+unfolding day_text
 read_back_day day is =
     let bounds = date_bounds day is in
     text_of_date (year_of day) (month_of day) (day_in_month day) (omega (arith, bounds.1)) (omega (arith, bounds.2)) (omega (arith, bounds.3)) ∙ dated day is

@@ -40,6 +40,6 @@ eight_digits n =
     digit_at n 10000000 ∷ digit_at n 1000000 ∷ digit_at n 100000 ∷ digit_at n 10000 ∷ four_digits n
 
 -- the text of a day; 45 is the byte of `-`
-abbrev pub day_text : DayNo → List ℕ
+unfoldable pub day_text : DayNo → List ℕ
 day_text day =
     four_digits (year_of day) ++ 45 ∷ (two_digits (month_of day) ++ 45 ∷ two_digits (day_in_month day))

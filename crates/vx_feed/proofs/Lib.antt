@@ -1,1 +1,2 @@
 pub mod NextEvent
+pub mod ReadBack

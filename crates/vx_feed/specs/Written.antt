@@ -1,10 +1,10 @@
--- How an event is written as a line of a feed (the form is this project's own): its kind and its values,
--- with commas between them, and LF.
+-- How an event is written as a line of a feed (the form is this project's own): its kind, its values, each
+-- behind a comma, and LF.
 use Rattle.std.specs.Prelude.{ℕ, suc, ℤ, pos, negsuc, List, [], ◌∷◌, ◌++◌, codes, flat_map}
-use Rattle.std.specs.List.{join_with_byte}
 use Rattle.vx_num.specs.Written.{decimal_text}
 use Rattle.vx_clock.specs.Clock.{clock_text}
 use Rattle.vx_clock.specs.DayText.{day_text}
+use Rattle.vx_clock.specs.declared.terms.Expiry.{Expiry}
 use Rattle.vx_clock.specs.declared.terms.Root.{Root}
 use Rattle.vx_clock.specs.declared.terms.Root.TheVariants.{Spx, Spxw}
 use Rattle.vx_symbol.specs.SymbolText.{symbol_text}
@@ -50,11 +50,15 @@ kind_of_event (event.Tick time) = kind.Tick
 kind_of_event (event.Opening time) = kind.Opening
 kind_of_event (event.End count) = kind.End
 
+-- the fields that name an expiry
+abbrev pub expiry_fields : Expiry → List (List ℕ)
+expiry_fields x = bare_root_text x.root ∷ day_text x.date ∷ []
+
 -- the fields behind the kind
 abbrev pub value_fields : Event → List (List ℕ)
 value_fields (event.Header day) = version_text ∷ day_text day ∷ []
-value_fields (event.Expiry x) = bare_root_text x.root ∷ day_text x.date ∷ []
-value_fields (event.Rate x rate) = bare_root_text x.root ∷ day_text x.date ∷ rate_text rate ∷ []
+value_fields (event.Expiry x) = expiry_fields x
+value_fields (event.Rate x rate) = expiry_fields x ++ rate_text rate ∷ []
 value_fields (event.Series s) = symbol_text s ∷ []
 value_fields (event.Quote time s bid ask) =
     clock_text time ∷ symbol_text s ∷ price_text bid ∷ price_text ask ∷ []
@@ -63,12 +67,13 @@ value_fields (event.Tick time) = clock_text time ∷ []
 value_fields (event.Opening time) = clock_text time ∷ []
 value_fields (event.End count) = count_text count ∷ []
 
-abbrev pub event_fields : Event → List (List ℕ)
-event_fields e = kind_text (kind_of_event e) ∷ value_fields e
+-- fields, each behind a comma
+abbrev pub behind_commas : List (List ℕ) → List ℕ
+behind_commas fields = flat_map (λ field. comma ∷ field) fields
 
 -- the line of an event, without its LF
 unfoldable pub event_line : Event → List ℕ
-event_line e = join_with_byte comma (event_fields e)
+event_line e = kind_text (kind_of_event e) ++ behind_commas (value_fields e)
 
 -- the line of an event
 abbrev pub event_text : Event → List ℕ

@@ -20,10 +20,10 @@ use vx_symbol::limits::PRICE_MAX;
 use vx_symbol::{Symbol, read_symbol};
 
 /// The places of a rate in percent per year: one unit is 10^-6 percent.
-const RATE_PLACES: u32 = 6;
+pub(crate) const RATE_PLACES: u32 = 6;
 
 /// The places of a price in points: one unit is a cent.
-const PRICE_PLACES: u32 = 2;
+pub(crate) const PRICE_PLACES: u32 = 2;
 
 fn read_root(text: &[u8]) -> Option<Root>
     ensures { result ≡ spec.root_of_text text.now }

@@ -9,11 +9,15 @@ pub mod laws;
 pub mod limits;
 mod order;
 mod read;
+mod write;
 
 pub use events::Event;
 pub use faults::FeedFault;
 pub use order::{Declared, Order};
 pub use read::{event_of_fields, line_fault, read_event};
+pub use write::write_event;
 
 #[cfg(test)]
 mod tests;
+#[cfg(test)]
+mod write_tests;

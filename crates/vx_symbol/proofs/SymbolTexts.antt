@@ -43,6 +43,7 @@ parts_back s y m d date side strike =
     [ Spx ↦ rw (date, side, strike) refl | Spxw ↦ rw (date, side, strike) refl ]
 
 pub read_back_symbol : (s : Symbol) → IsSymbolInRange s → symbol_of_text (symbol_text s) ≡ Ok s
+unfolding symbol_text
 read_back_symbol s is =
     let bounds = date_bounds s.date is.date in
     let year : 2000 + (year_of s.date - 2000) ≡ year_of s.date = omega (arith, bounds.0) in

@@ -11,5 +11,5 @@ abbrev pub date_digits : DayNo → List ℕ
 date_digits day = two_digits (year_of day - YEAR_MIN) ++ two_digits (month_of day) ++ two_digits (day_in_month day)
 
 -- the root, the day, the side, and the strike in thousandths of a point
-abbrev pub symbol_text : Symbol → List ℕ
+unfoldable pub symbol_text : Symbol → List ℕ
 symbol_text s = root_text s.root ++ (date_digits s.date ++ side_byte s.side ∷ eight_digits s.strike)
