@@ -5,8 +5,13 @@ use Rattle.vx_num.specs.Fraction.{Fraction, IsProper, whole, ◌*ᶠ◌, ◌≤�
 use Rattle.vx_num.proofs.Whole.{mul_mono, mul_strict}
 use Rattle.vx_formula.specs.declared.limits.TheConstants.{FORWARD_UNITS}
 use Rattle.vx_formula.specs.Pair.{Pair}
+use Rattle.vx_formula.specs.Term.{exponent}
 use Rattle.vx_formula.specs.Forward.{forward_at}
-use Rattle.vx_laws.specs.StrikesByEnds.{AllAboveIsBelowAll, GreatestAtMostIsLevel, EndsDecideOrNot}
+use Rattle.vx_formula.specs.Between.{forward_units}
+use Rattle.vx_bracket.proofs.Members.{bracket_has_member}
+use Rattle.vx_formula.proofs.Ends.{whole_at_most}
+use Rattle.vx_formula.proofs.LevelLemmas.{exponent_proper}
+use Rattle.vx_laws.specs.StrikesByEnds.{EndsAreInOrder, AllAboveIsBelowAll, GreatestAtMostIsLevel, EndsDecideOrNot}
 use Rattle.vx_laws.proofs.StrikeCases.{lie_one_way}
 
 -- a fraction t/b by its bounds in units
@@ -32,6 +37,11 @@ at_most_forward f lo k above low =
 
 forward_proper : (pair : Pair) (e : Fraction) → IsProper e → IsProper (forward_at pair e)
 forward_proper pair e proper = omega arith
+
+pub ends_are_in_order : EndsAreInOrder
+ends_are_in_order term lo hi h =
+    let member = bracket_has_member h.depth (exponent term.rate term.minutes) (exponent_proper term.rate term.minutes) in
+    whole_at_most lo hi (forward_units term member.0) (omega (arith, forward_proper term.pair member.0 member.1.proper)) (h.at_least member.0 member.1) (h.at_most member.0 member.1)
 
 pub all_above_is_below_all : AllAboveIsBelowAll
 all_above_is_below_all term lo hi h above = record {

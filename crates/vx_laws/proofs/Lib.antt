@@ -8,3 +8,5 @@ pub mod ReadingLemmas
 pub mod BestOf
 pub mod StrikeCases
 pub mod EndLemmas
+pub mod RowDecisions
+pub mod TermOutcomes

@@ -2,3 +2,4 @@ pub mod TermDays
 pub mod FeedDays
 pub mod NextEvents
 pub mod StrikesByEnds
+pub mod TermOutcomes

@@ -47,6 +47,10 @@ GreatestAtMostIsOne = (rows : List StrikeRow) (lo hi : ℤ) (a b : ℕ) → lo �
 
 -- ---- what two ends around a forward say of the level
 
+-- they are in order
+abbrev pub EndsAreInOrder : Type 0
+EndsAreInOrder = (term : Term) (lo hi : ℤ) → ForwardBetween term lo hi → lo ≤ℤ hi
+
 -- where every listed strike is above the high end, every listed strike is above the forward
 abbrev pub AllAboveIsBelowAll : Type 0
 AllAboveIsBelowAll = (term : Term) (lo hi : ℤ) → ForwardBetween term lo hi → AreAllAbove term.rows hi → IsBelowAll term
