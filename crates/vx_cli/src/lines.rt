@@ -1,4 +1,4 @@
-ghost use Rattle.std.specs.Prelude.{◌≡◌, IsTrue, IfErr, IfOk};
+ghost use Rattle.std.specs.Prelude.{◌≡◌, IsTrue, IfErr, IfOk, MatchOption, Some};
 ghost use Rattle.vx_desk.specs.Told.{ChangesOnly};
 ghost use Rattle.vx_cli.specs.Exits.{IsStop};
 ghost use Rattle.vx_cli.specs.Failures.{StepFailures, KeepsSlots};
@@ -19,7 +19,7 @@ pub(crate) fn next_cert_line<D: Desk>(
     ensures others { ChangesOnly Slot.Side (D.told desk.old) (D.told desk.new) }
     ensures names { D.holds desk.new ≡ D.holds desk.old }
     ensures reader { (lines.new.slot ≡ lines.old.slot) × (lines.new.limit ≡ lines.old.limit) }
-    ensures last { IfOk result (λ line. lines.new.last ≡ line) }
+    ensures last { IfOk result (λ found. MatchOption found (lines.new.last ≡ lines.old.last) (λ line. lines.new.last ≡ Some line)) }
 {
     match lines.next(desk) {
         Ok(line) => Ok(line),

@@ -14,9 +14,9 @@ use Rattle.vx_desk.specs.Lines.{ReaderState, to_come, HasNoLf, IsTooLong, IsCutO
 use Rattle.vx_desk.specs.Refill.{IsFirstLf, Refills, IsCut, Cuts, EndsInput}
 use Rattle.vx_desk.proofs.ReaderLemmas.{prepend_known-append}
 
--- the reader with these bytes waiting, and no line given by this call
+-- the reader with these bytes waiting
 abbrev pub with_waiting : ReaderState → List ℕ → ReaderState
-with_waiting old bytes = record old { waiting = bytes; last = None; last_bytes = [] }
+with_waiting old bytes = record old { waiting = bytes }
 
 -- blocks were read since the call began, and no byte to come was lost
 pub record ReadsOn (old now : ReaderState) (before after : Told) : Type 0 where
@@ -38,7 +38,7 @@ ChangesReads-trans p q = record {
   writes = q.writes ∙ p.writes;
 }
 
-pub ReadsOn-start : (old now : ReaderState) (t : Told) → now ≡ record old { last = None; last_bytes = [] } → now.is_ended ≡ false → ReadsOn old now t t
+pub ReadsOn-start : (old now : ReaderState) (t : Told) → now ≡ old → now.is_ended ≡ false → ReadsOn old now t t
 ReadsOn-start old now t is open_yet =
     let waiting = ap (λ (s : ReaderState). s.waiting) is in
     record {
@@ -86,10 +86,11 @@ gives_line old now new before after place line on lf cut =
     }
 
 -- a call that gives no line after it read on
-gives_none : (old now new : ReaderState) (before after : Told) → ReadsOn old now before after → new.number ≡ now.number → new.last ≡ now.last → new.waiting ≡ now.waiting → GivesNone old new (to_come old before) (to_come new after)
-gives_none old now new before after on number last waiting = record {
+gives_none : (old now new : ReaderState) (before after : Told) → ReadsOn old now before after → new.number ≡ now.number → new.last ≡ now.last → new.last_bytes ≡ now.last_bytes → new.waiting ≡ now.waiting → GivesNone old new (to_come old before) (to_come new after)
+gives_none old now new before after on number last bytes waiting = record {
   number = number ∙ ap (λ (s : ReaderState). s.number) on.state;
   last = last ∙ ap (λ (s : ReaderState). s.last) on.state;
+  last_bytes = bytes ∙ ap (λ (s : ReaderState). s.last_bytes) on.state;
   kept = ap (λ xs. prepend_known xs after.left) waiting ∙ on.come;
 }
 
@@ -106,7 +107,7 @@ ends_too_long old now new before after fault on long is ended =
     let number = ap (λ (s : ReaderState). s.number) on.state in
     let limit : now.limit ≡ old.limit = ap (λ (s : ReaderState). s.limit) on.state in
     rw is (
-      gives_none old now new before after on (ap (λ (s : ReaderState). s.number) ended) (ap (λ (s : ReaderState). s.last) ended) (ap (λ (s : ReaderState). s.waiting) ended),
+      gives_none old now new before after on (ap (λ (s : ReaderState). s.number) ended) (ap (λ (s : ReaderState). s.last) ended) (ap (λ (s : ReaderState). s.last_bytes) ended) (ap (λ (s : ReaderState). s.waiting) ended),
       record { numbered = ap next_number number; ended = (on.open_yet, ap (λ (s : ReaderState). s.is_ended) ended) },
       subst (λ n. IsTooLong n new.waiting) limit (subst (IsTooLong now.limit) (sym (ap (λ (s : ReaderState). s.waiting) ended)) long),
       subst (λ known. IfSome known (IsTooLong old.limit)) on.come (subst (λ n. IfSome (to_come now after) (IsTooLong n)) limit (too_long_before now.limit now.waiting after.left long)),
@@ -141,7 +142,7 @@ cut_off_before limit waiting (Some xs) e h = subst (IsCutOff limit) (sym (append
 -- the answer at the end of the input
 pub answers_end : (old now new : ReaderState) (before after : Told) (result : Result (Option Line) ReadFault) → ReadsOn old now before after → IsAtEnd after.left → HasNoLf now.waiting → length now.waiting ≤ now.limit → EndsInput now new result → Answers old new (to_come old before) (to_come new after) result
 answers_end old now new before after (Ok line) on end no_lf fits h =
-    let none = gives_none old now new before after on (ap (λ (s : ReaderState). s.number) h.2) (ap (λ (s : ReaderState). s.last) h.2) (ap (λ (s : ReaderState). s.waiting) h.2) in
+    let none = gives_none old now new before after on (ap (λ (s : ReaderState). s.number) h.2) (ap (λ (s : ReaderState). s.last) h.2) (ap (λ (s : ReaderState). s.last_bytes) h.2) (ap (λ (s : ReaderState). s.waiting) h.2) in
     rw h.0 (
       none,
       ap (λ (s : ReaderState). s.is_ended) h.2 ∙ ap (λ (s : ReaderState). s.is_ended) on.state,
@@ -152,7 +153,7 @@ answers_end old now new before after (Err fault) on end no_lf fits h =
     let limit : now.limit ≡ old.limit = ap (λ (s : ReaderState). s.limit) on.state in
     let off : IsCutOff now.limit now.waiting = record { some = h.0; fits = fits; no_lf = no_lf } in
     rw h.1 (
-      gives_none old now new before after on (ap (λ (s : ReaderState). s.number) h.2) (ap (λ (s : ReaderState). s.last) h.2) (ap (λ (s : ReaderState). s.waiting) h.2),
+      gives_none old now new before after on (ap (λ (s : ReaderState). s.number) h.2) (ap (λ (s : ReaderState). s.last) h.2) (ap (λ (s : ReaderState). s.last_bytes) h.2) (ap (λ (s : ReaderState). s.waiting) h.2),
       record { numbered = ap next_number number; ended = (on.open_yet, ap (λ (s : ReaderState). s.is_ended) h.2) },
       subst (λ n. IsCutOff n new.waiting) limit (subst (IsCutOff now.limit) (sym (ap (λ (s : ReaderState). s.waiting) h.2)) off),
       subst (λ known. IfSome known (IsCutOff old.limit)) on.come (subst (λ n. IfSome (to_come now after) (IsCutOff n)) limit (cut_off_before now.limit now.waiting after.left end off)),
@@ -165,6 +166,7 @@ answers_device old now new before mid after e on more =
       record {
         number = ap (λ (s : ReaderState). s.number) state;
         last = ap (λ (s : ReaderState). s.last) state;
+        last_bytes = ap (λ (s : ReaderState). s.last_bytes) state;
         kept = more.kept ∙ on.come;
       },
       on.open_yet,

@@ -1,15 +1,17 @@
 -- Lines and blocks of a reader, over plain lists.
 use Rattle.std.proofs.Common.{◌≡◌, ◌≢◌, ℕ, ◌+◌, ◌-◌, ◌<◌, ◌≤◌, zero-le, List, [], ◌++◌, length, take, drop, get_or, Option, Some, None, MatchOption, refl, sym, ◌∙◌, ap, subst, arith, eq-eqb, eqb-true}
-use Rattle.std.specs.Prelude.{slice_range, Ok}
+use Rattle.std.specs.Prelude.{slice_range, Ok, Err}
 use Rattle.std.specs.Io.KnownBytes.{prepend_known, IsAtEnd}
 use Rattle.std.proofs.lemmas.List.{append_assoc, length-append, length-take-le, take_at}
 use Rattle.std.proofs.lemmas.List.{get_or-take, get_or-drop, drop-take, drop-drop, take-append-drop, length-take, length-drop, take_all, take-take}
 use Rattle.std.proofs.lemmas.List.Elements.{All-from_get_or, All-append}
 use Rattle.memchr.specs.Find.{IsFirstByte, Nowhere, Passes, is_byte}
+use Rattle.vx_desk.specs.declared.device.Failed.{Failed}
+use Rattle.vx_desk.specs.declared.lines.Line.{Line}
 use Rattle.vx_desk.specs.declared.lines.TheConstants.{LF}
-use Rattle.vx_desk.specs.Lines.{ReaderState, HasNoLf}
+use Rattle.vx_desk.specs.Lines.{ReaderState, HasNoLf, bytes_given}
 use Rattle.vx_desk.specs.Told.{Told, Reads}
-use Rattle.vx_desk.specs.Refill.{IsFirstLf, Refills}
+use Rattle.vx_desk.specs.Refill.{IsFirstLf, LiesBetween, Refills}
 use Rattle.vx_desk.proofs.SendingLemmas.{take-more}
 
 -- a byte of a list that is the end of a line passes the search's test
@@ -82,12 +84,56 @@ Refills-ok old new before after buf n state grown reads room = record {
   at_end = λ none. subst IsAtEnd (reads.moved ∙ (ap (λ m. prepend_known (take m buf) after.left) none ∙ prepend_known-nil after.left)) (reads.at_end (ap (λ (m : ℕ). Ok m) none) room);
 }
 
--- what waits once n bytes were read behind the part that was moved to the front
-pub waiting-refilled : (old items : List ℕ) (part n : ℕ) → take part items ≡ old → slice_range items 0 (part + n) ≡ old ++ take n (drop part items)
-waiting-refilled old items part n moved =
-    let e : (part + n) - 0 ≡ part + n = omega arith in
-    ap (λ m. take m items) e ∙ (sym (take-more items part n) ∙ ap (λ xs. xs ++ take n (drop part items)) moved)
+-- the first bytes of what stands behind the first n
+slice_range-more : (xs : List ℕ) (n part more : ℕ) → n ≤ part → part ≤ length xs → slice_range xs n (part + more) ≡ slice_range xs n part ++ take more (drop part xs)
+slice_range-more xs n part more first within =
+    let e : (part + more) - n ≡ (part - n) + more = omega arith in
+    let f : n + (part - n) ≡ part = omega arith in
+    ap (λ m. take m (drop n xs)) e ∙ (sym (take-more (drop n xs) (part - n) more) ∙ ap (λ ys. slice_range xs n part ++ take more ys) (drop-drop (part - n) n xs ∙ ap (λ m. drop m xs) f))
 
--- the part that waits leaves room in its buffer
-pub part-within : (items waiting : List ℕ) (start end limit size : ℕ) → slice_range items start end ≡ waiting → size ≡ length items → start ≤ end → end ≤ size → limit + 65536 ≤ size → length waiting ≤ limit → end - start < size
-part-within items waiting start end limit size is same ordered within room le = omega (arith, ap length is, length-take (end - start) (drop start items), length-drop start items)
+-- a part of a buffer, once the buffer from `kept` on was moved to the front
+moved-slice_range : (items moved : List ℕ) (kept start end : ℕ) → kept ≤ start → start ≤ end → take (end - kept) moved ≡ slice_range items kept end → slice_range moved (start - kept) (end - kept) ≡ slice_range items start end
+moved-slice_range items moved kept start end before ordered is =
+    let e : kept + (start - kept) ≡ start = omega arith in
+    let le : kept + (start - kept) ≤ end = omega arith in
+    let f : (start - kept) + ((end - kept) - (start - kept)) ≡ end - kept = omega arith in
+    (sym (drop-take (start - kept) ((end - kept) - (start - kept)) moved) ∙ ap (λ m. drop (start - kept) (take m moved)) f) ∙
+    (ap (drop (start - kept)) is ∙ (sym (drop-slice_range items kept (start - kept) end le) ∙ ap (λ m. slice_range items m end) e))
+
+-- what waits once n bytes were read behind the part that was moved to the front
+pub waiting-refilled : (old items moved : List ℕ) (kept start end n : ℕ) → slice_range items start end ≡ old → kept ≤ start → start ≤ end → end - kept ≤ length moved → take (end - kept) moved ≡ slice_range items kept end → slice_range moved (start - kept) ((end - kept) + n) ≡ old ++ take n (drop (end - kept) moved)
+waiting-refilled old items moved kept start end n waits before ordered within is =
+    slice_range-more moved (start - kept) (end - kept) n (omega arith) within ∙
+    ap (λ xs. xs ++ take n (drop (end - kept) moved)) (moved-slice_range items moved kept start end before ordered is ∙ waits)
+
+-- they are as they were where nothing was read
+pub waiting-moved : (old items moved : List ℕ) (kept start end : ℕ) → slice_range items start end ≡ old → kept ≤ start → start ≤ end → take (end - kept) moved ≡ slice_range items kept end → slice_range moved (start - kept) (end - kept) ≡ old
+waiting-moved old items moved kept start end waits before ordered is = moved-slice_range items moved kept start end before ordered is ∙ waits
+
+-- the last line lies before those that wait once both were moved to the front
+pub lies-moved : (last : Option Line) (kept start : ℕ) → LiesBetween kept start last → LiesBetween 0 (start - kept) last
+lies-moved None kept start lies = tt
+lies-moved (Some line) kept start lies = (lies.0, omega (arith, lies.1))
+
+-- a read that failed
+pub Refills-err : (old new : ReaderState) (before after : Told) (buf : List ℕ) (e : Failed) → new ≡ record old { waiting = new.waiting } → new.waiting ≡ old.waiting → Reads buf before after (Err e) → Refills old new before after (Err e)
+Refills-err old new before after buf e state same reads = record {
+  state = state;
+  grown = same;
+  first = ap (take (length old.waiting)) same ∙ take_all (length old.waiting) old.waiting (omega arith);
+  kept = ap (λ xs. prepend_known xs after.left) same ∙ ap (prepend_known old.waiting) reads.moved;
+  at_end = tt;
+}
+
+-- the last line's bytes once they were moved to the front
+pub last-moved : (last : Option Line) (items moved : List ℕ) (kept start end : ℕ) → LiesBetween kept start last → start ≤ end → take (end - kept) moved ≡ slice_range items kept end → bytes_given last 0 moved ≡ bytes_given last kept items
+last-moved None items moved kept start end lies ordered is = refl
+last-moved (Some line) items moved kept start end lies ordered is =
+    let size : ℕ = line.end - line.start in
+    let none : (0 + size) - 0 ≡ size = omega arith in
+    let within : kept + size ≤ end = omega (arith, lies.1) in
+    ap (λ m. take m moved) none ∙ (sym (take-take size (end - kept) moved (omega arith)) ∙ (ap (take size) is ∙ sym (take-slice_range items kept size end within)))
+
+-- the last line and what waits leave room in their buffer
+pub part-within : (items waiting : List ℕ) (kept start end limit size : ℕ) → slice_range items start end ≡ waiting → size ≡ length items → start ≤ end → end ≤ size → start ≤ kept + limit + 1 → limit + limit + 1 + 65536 ≤ size → length waiting ≤ limit → end - kept < size
+part-within items waiting kept start end limit size is same ordered within near room le = omega (arith, ap length is, length-take (end - start) (drop start items), length-drop start items)

@@ -19,7 +19,7 @@ pub record ReaderState : Type 0 where
   pub number : ℕ
   -- a line was too long or had no end, so that nothing more is given
   pub is_ended : Bool
-  -- the line that the last call gave, and its bytes
+  -- the line that was given last, and its bytes
   pub last : Option Line
   pub last_bytes : List ℕ
 
@@ -61,10 +61,11 @@ pub record GivesLine (old new : ReaderState) (before after : Option (List ℕ)) 
   pub taken : before ≡ prepend_known (new.last_bytes ++ LF ∷ []) after
   pub open_yet : (old.is_ended ≡ false) × (new.is_ended ≡ false)
 
--- no line is given, and no byte to come is lost
+-- no line is given, no byte to come is lost, and the line before stays the last one
 pub record GivesNone (old new : ReaderState) (before after : Option (List ℕ)) : Type 0 where
   pub number : new.number ≡ old.number
-  pub last : new.last ≡ None
+  pub last : new.last ≡ old.last
+  pub last_bytes : new.last_bytes ≡ old.last_bytes
   pub kept : after ≡ before
 
 -- what waits is no line, and nothing more is given
@@ -87,7 +88,7 @@ CountsReads (Ok _) old new = new ≡ old
 CountsReads (Err (LineTooLong _)) old new = new ≡ old
 CountsReads (Err (NoEol _)) old new = new ≡ old
 
--- the bytes of the line that was given last
-abbrev pub bytes_given : Option Line → List ℕ → List ℕ
-bytes_given None buffer = []
-bytes_given (Some line) buffer = slice_range buffer line.start line.end
+-- the bytes of the line that was given last, kept in a buffer from this place on
+abbrev pub bytes_given : Option Line → ℕ → List ℕ → List ℕ
+bytes_given None place buffer = []
+bytes_given (Some line) place buffer = slice_range buffer place (place + (line.end - line.start))

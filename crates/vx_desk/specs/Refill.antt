@@ -1,5 +1,5 @@
 -- Steps of a reader between two lines.
-use Rattle.std.specs.Prelude.{◌≡◌, ℕ, ◌+◌, ◌<◌, ◌≤◌, List, length, take, drop, slice_index, Option, None, Some, Result, Ok, Err, MatchResult, true, []}
+use Rattle.std.specs.Prelude.{◌≡◌, ℕ, ◌+◌, ◌-◌, ◌<◌, ◌≤◌, List, length, take, drop, slice_index, Option, None, Some, Result, Ok, Err, MatchResult, true, []}
 use Rattle.std.specs.Io.KnownBytes.{IsAtEnd}
 use Rattle.vx_desk.specs.declared.device.Failed.{Failed}
 use Rattle.vx_desk.specs.declared.lines.Line.{Line}
@@ -15,10 +15,10 @@ pub record IsFirstLf (bytes : List ℕ) (place : ℕ) : Type 0 where
   pub no_lf : HasNoLf (take place bytes)
   pub lf : slice_index bytes place ≡ LF
 
--- the line lies within a buffer of this length
-abbrev pub LiesWithin : ℕ → Option Line → Type 0
-LiesWithin size None = Unit {0}
-LiesWithin size (Some line) = (line.start ≤ line.end) × (line.end ≤ size)
+-- the bytes of the line have room between two places of a buffer
+abbrev pub LiesBetween : ℕ → ℕ → Option Line → Type 0
+LiesBetween from to None = Unit {0}
+LiesBetween from to (Some line) = (line.start ≤ line.end) × (from + (line.end - line.start) ≤ to)
 
 -- one read puts what it gives behind the bytes that wait; no byte to come is lost
 pub record Refills (old new : ReaderState) (before after : Told) (result : Result ℕ Failed) : Type 0 where

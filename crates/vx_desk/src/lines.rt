@@ -4,12 +4,12 @@ use thiserror::Error;
 pub const LF: u8 = b'\n';
 
 /// One line of a slot, numbered from 1, without the LF that ends it. `LineReader::bytes` gives its
-/// bytes.
+/// bytes, wherever the reader keeps them by then.
 #[derive(Clone, Copy, Debug, PartialEq, Eq)]
 pub struct Line {
-    /// Where the line begins in the reader's buffer.
+    /// Where the line began in the reader's buffer when it was given.
     pub start: usize,
-    /// Where it ends there, at its LF.
+    /// Where it ended there, at its LF.
     pub end: usize,
     /// How many lines of the slot there are up to this one. It stops at the greatest `u64`.
     pub number: u64,

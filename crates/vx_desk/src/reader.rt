@@ -25,7 +25,11 @@ pub struct LineReader {
     buffer: Vec<u8>,
     slot: Slot,
     limit: usize,
+    /// Where the bytes of the last line begin. They stand before those that wait.
+    kept: usize,
+    /// Where the bytes that wait begin.
     start: usize,
+    /// Where they end.
     end: usize,
     number: u64,
     is_ended: bool,
@@ -35,7 +39,7 @@ pub struct LineReader {
 impl Model for LineReader {
     ghost use Rattle.std.specs.Prelude.{◌≡◌, ◌+◌, ◌≤◌, vec_len, slice_range, Some, length};
     ghost use Rattle.vx_desk.specs.Lines.{ReaderState, bytes_given};
-    ghost use Rattle.vx_desk.specs.Refill.{LiesWithin};
+    ghost use Rattle.vx_desk.specs.Refill.{LiesBetween};
 
     ghost Value = { ReaderState };
 
@@ -46,10 +50,10 @@ impl Model for LineReader {
       number = r.number;
       is_ended = r.is_ended;
       last = r.last;
-      last_bytes = bytes_given r.last r.buffer.items;
+      last_bytes = bytes_given r.last r.kept r.buffer.items;
     } };
 
-    ghost invariant = { λ r. (r.start ≤ r.end) × (r.end ≤ vec_len r.buffer) × (r.limit + 65536 ≤ vec_len r.buffer) × (r.limit ≤ 1048576) × LiesWithin (vec_len r.buffer) r.last };
+    ghost invariant = { λ r. (r.kept ≤ r.start) × (r.start ≤ r.end) × (r.end ≤ vec_len r.buffer) × (r.start ≤ r.kept + r.limit + 1) × (r.limit + r.limit + 1 + 65536 ≤ vec_len r.buffer) × (r.limit ≤ 1048576) × LiesBetween r.kept r.start r.last };
 }
 
 impl LineReader {
@@ -58,11 +62,12 @@ impl LineReader {
         requires { (1 ≤ limit) × (limit ≤ LONGEST_LINE) }
         ensures { IfOk result (λ reader. reader ≡ record { slot = slot; limit = limit; waiting = []; number = 0; is_ended = false; last = None; last_bytes = [] }) }
     {
-        let buffer = vec![in alloc; 0u8; limit + BLOCK].map_err(|_| NoMemory)?;
+        let buffer = vec![in alloc; 0u8; 2 * limit + 1 + BLOCK].map_err(|_| NoMemory)?;
         Ok(LineReader {
             buffer,
             slot,
             limit,
+            kept: 0,
             start: 0,
             end: 0,
             number: 0,
@@ -84,7 +89,6 @@ impl LineReader {
         ensures slot { self.new.slot ≡ self.old.slot }
         ensures limit { self.new.limit ≡ self.old.limit }
     {
-        self.forget();
         if self.is_over() {
             return Ok(None);
         }
@@ -105,19 +109,14 @@ impl LineReader {
         }
     }
 
-    /// The bytes of the line that the last call of `next` gave.
+    /// The bytes of the last line that `next` gave, also after later calls that gave none.
     pub fn bytes(&self, line: &Line) -> &[u8]
         requires { self.now.last ≡ Some line.now }
         ensures { result.now ≡ self.now.last_bytes }
     {
-        &self.buffer[line.start..line.end]
-    }
-
-    /// Forgets the last line, so that its bytes may be moved.
-    fn forget(&mut self)
-        ensures { self.new ≡ record self.old { last = None; last_bytes = [] } }
-    {
-        self.last = None;
+        let from = self.kept;
+        let to = from + (line.end - line.start);
+        &self.buffer[from..to]
     }
 
     fn is_over(&self) -> bool
@@ -162,6 +161,7 @@ impl LineReader {
             end: self.start + length,
             number: self.number.saturating_add(1),
         };
+        self.kept = line.start;
         self.start = line.end + 1;
         self.number = line.number;
         self.last = Some(line);
@@ -191,11 +191,10 @@ impl LineReader {
         })
     }
 
-    /// Moves the waiting bytes to the front and reads behind them.
+    /// Moves the last line and the waiting bytes to the front and reads behind them.
     fn refill<D: Desk>(&mut self, desk: &mut D) -> Result<usize, Failed>
         requires reading { IsReading self.old.slot }
         requires open { IsTrue (D.told desk.old self.old.slot).is_open }
-        requires forgotten { self.old.last ≡ None }
         requires within { length self.old.waiting ≤ self.old.limit }
         ensures refills { Refills self.old self.new (D.told desk.old self.old.slot) (D.told desk.new self.old.slot) result }
         ensures counts { Counts result (D.told desk.old self.old.slot).failed_reads (D.told desk.new self.old.slot).failed_reads }
@@ -203,9 +202,10 @@ impl LineReader {
         ensures others { ChangesOnly self.old.slot (D.told desk.old) (D.told desk.new) }
         ensures names { D.holds desk.new ≡ D.holds desk.old }
     {
-        let outcome = read_behind(desk, self.slot, &mut self.buffer, self.start, self.end);
-        self.end -= self.start;
-        self.start = 0;
+        let outcome = read_behind(desk, self.slot, &mut self.buffer, self.kept, self.end);
+        self.start -= self.kept;
+        self.end -= self.kept;
+        self.kept = 0;
         let count = outcome?;
         self.end += count;
         Ok(count)

@@ -67,6 +67,23 @@ fn keeps_bytes_over_a_failed_read(rt: HostRuntime) -> Result<(), Fail> {
 }
 
 #[test]
+fn keeps_the_last_line_over_a_failed_read(rt: HostRuntime) -> Result<(), Fail> {
+    let mut desk = MemDesk::new(rt.alloc(), 0, 3, &[4])?;
+    desk.add_file("feed", b"ab\ncdefg\n")?;
+    desk.open(Slot::Feed, "feed")?;
+    let mut reader = LineReader::new(rt.alloc(), Slot::Feed, 5)?;
+    match reader.next(&mut desk) {
+        Ok(Some(line)) => {
+            assert_eq!(rt; reader.next(&mut desk), Err(ReadFault::Device));
+            assert_eq!(rt; reader.bytes(&line), b"ab".as_slice());
+        }
+        _ => panic!(rt; "no line"),
+    }
+    expect_line(&rt, &mut reader, &mut desk, 2, b"cdefg");
+    Ok(())
+}
+
+#[test]
 fn refuses_lines_past_the_limit(rt: HostRuntime) -> Result<(), Fail> {
     let mut desk = MemDesk::new(rt.alloc(), 0, 100, &[])?;
     desk.add_file("feed", b"abcd\nefghi\nj\n")?;

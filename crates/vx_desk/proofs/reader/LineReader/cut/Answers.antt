@@ -1,4 +1,4 @@
-use Rattle.std.proofs.Common.{List, ℕ, ◌+◌, ◌≤◌, sym, ◌∙◌, ap, take, drop, refl, arith, add_assoc}
+use Rattle.std.proofs.Common.{List, ℕ, ◌≡◌, ◌+◌, ◌-◌, ◌≤◌, sym, ◌∙◌, ap, take, drop, refl, arith, add_assoc}
 use Rattle.std.specs.Prelude.{slice_range}
 use Rattle.vx_desk.specs.Lines.{ReaderState, next_number}
 use Rattle.vx_desk.proofs.ReaderLemmas.{drop-slice_range, take-slice_range, same_state, slice_range-fits}
@@ -13,7 +13,8 @@ returns c =
     let size : ℕ = c.args.length in
     let waits = ap (λ (s : ReaderState). s.waiting) is in
     let fits : start + (size + 1) ≤ end =
-    slice_range-fits start (size + 1) end items c.args.self.now.waiting (sym waits) (omega (arith, c.requires.found.within)) c.self.invariant.0 in
+    slice_range-fits start (size + 1) end items c.args.self.now.waiting (sym waits) (omega (arith, c.requires.found.within)) c.self.invariant.1 in
+    let same : (start + size) - start ≡ size = omega arith in
     let number = c.saturating_add.ensures ∙ ap (λ (s : ReaderState). next_number s.number) is in
     record {
       cuts = record {
@@ -27,6 +28,6 @@ returns c =
             number
             (ap (λ (s : ReaderState). s.is_ended) is)
             refl
-            (take-slice_range items start size end (omega (arith, fits)) ∙ ap (take size) waits);
+            (ap (λ (m : ℕ). slice_range items start (start + m)) same ∙ (take-slice_range items start size end (omega (arith, fits)) ∙ ap (take size) waits));
       };
     }

@@ -8,10 +8,10 @@ pub returns : goal.returns
 returns c =
     let waits : c.args.self.now.waiting ≡ slice_range c.deref.result.now c.self.inside.start c.self.inside.end =
     ap (λ (s : ReaderState). s.waiting) (sym c.self.view_is) ∙ ap (λ (xs : List ℕ). slice_range xs c.self.inside.start c.self.inside.end) (sym c.deref.ensures.value) in
-    first_lf_of_part c.args.self.now.waiting c.deref.result.now c.self.inside.start c.args.searched c.self.inside.end (Some c.in_ok-at.at) waits c.self.invariant.0 c.requires.within c.requires.passed c.in_ok-at.ensures
+    first_lf_of_part c.args.self.now.waiting c.deref.result.now c.self.inside.start c.args.searched c.self.inside.end (Some c.in_ok-at.at) waits c.self.invariant.1 c.requires.within c.requires.passed c.in_ok-at.ensures
 
 pub returns-in_err-at : goal.returns-in_err-at
 returns-in_err-at c =
     let waits : c.args.self.now.waiting ≡ slice_range c.deref.result.now c.self.inside.start c.self.inside.end =
     ap (λ (s : ReaderState). s.waiting) (sym c.self.view_is) ∙ ap (λ (xs : List ℕ). slice_range xs c.self.inside.start c.self.inside.end) (sym c.deref.ensures.value) in
-    rw c.from_residual.ensures (first_lf_of_part c.args.self.now.waiting c.deref.result.now c.self.inside.start c.args.searched c.self.inside.end None waits c.self.invariant.0 c.requires.within c.requires.passed c.in_err-at.ensures)
+    rw c.from_residual.ensures (first_lf_of_part c.args.self.now.waiting c.deref.result.now c.self.inside.start c.args.searched c.self.inside.end None waits c.self.invariant.1 c.requires.within c.requires.passed c.in_err-at.ensures)
