@@ -1,14 +1,13 @@
 -- The text that a certificate is written as: one line of JSON with no space and its keys in byte order, and LF. This project's
 -- own format.
-use Rattle.std.specs.Prelude.{◌≡◌, ℕ, ℤ, pos, List, [], ◌∷◌, ◌++◌, map, codes, Ok}
+use Rattle.std.specs.Prelude.{ℕ, ℤ, pos, List, [], ◌∷◌, ◌++◌, map, codes}
 use Rattle.serde_json.specs.Data.{Data, number, string, array, object, Members, no_members, member, unsigned}
 use Rattle.serde_json.specs.Find.{of_integer}
 use Rattle.serde_json.specs.View.{items_of}
 use Rattle.serde_json.specs.Written.{compact_text}
 use Rattle.vx_num.specs.Written.{wide_text}
 use Rattle.vx_clock.specs.Clock.{clock_text}
-use Rattle.vx_clock.specs.Day.{day_of_text}
-use Rattle.vx_clock.specs.declared.days.DayNo.{DayNo}
+use Rattle.vx_clock.specs.DayText.{day_text}
 use Rattle.vx_clock.specs.declared.terms.Expiry.{Expiry}
 use Rattle.vx_clock.specs.declared.terms.Root.{Root}
 use Rattle.vx_clock.specs.declared.terms.Root.TheVariants.{Spx, Spxw}
@@ -63,10 +62,9 @@ row_data row =
     list_from (whole_number row.strike ∷ whole_number row.d ∷ whole_number row.q4
     ∷ wide_number (pos row.lo) ∷ wide_number (pos row.hi) ∷ [])
 
--- a term, whose day has this text
-abbrev pub term_data : List ℕ → CertTerm → Data
-term_data date term = object_from (
-    (codes "date", string date)
+abbrev pub term_data : CertTerm → Data
+term_data term = object_from (
+    (codes "date", string (day_text term.expiry.date))
     ∷ (codes "e", ends_data term.e)
     ∷ (codes "exp", list_from (taylor_data term.t_lo ∷ taylor_data term.t_hi ∷ []))
     ∷ (codes "f", ends_data term.f)
@@ -81,66 +79,57 @@ term_data date term = object_from (
     ∷ (codes "w", ends_data term.w)
     ∷ [])
 
--- kind k0, of an expiry whose day has this text
-abbrev pub level_data : Certificate → List ℕ → Root → Pair → ℕ → Data
-level_data c date root pair k0 = object_from (
-    (codes "date", string date)
+-- kind k0
+abbrev pub level_data : Certificate → Expiry → Pair → ℕ → Data
+level_data c expiry pair k0 = object_from (
+    (codes "date", string (day_text expiry.date))
     ∷ (codes "k0", whole_number k0)
     ∷ (codes "kind", string (codes "k0"))
     ∷ (codes "line", whole_number c.line)
     ∷ (codes "pair", pair_data pair)
-    ∷ (codes "root", string (root_name root))
+    ∷ (codes "root", string (root_name expiry.root))
     ∷ (codes "time", string (clock_text c.time))
     ∷ (codes "v", whole_number c.v)
     ∷ [])
 
 -- a kind of one term
-abbrev pub one_term_data : List ℕ → Certificate → Data → CertFigure → Data
+abbrev pub one_term_data : List ℕ → Certificate → CertTerm → CertFigure → Data
 one_term_data kind c term figure = object_from (
     (codes "cents", whole_number figure.cents)
     ∷ (codes "ends", two_wide figure.lo figure.hi)
     ∷ (codes "kind", string kind)
     ∷ (codes "line", whole_number c.line)
-    ∷ (codes "term", term)
+    ∷ (codes "term", term_data term)
     ∷ (codes "time", string (clock_text c.time))
     ∷ (codes "v", whole_number c.v)
     ∷ (codes "x", ends_data figure.x)
     ∷ [])
 
 -- kind index
-abbrev pub index_data : Certificate → ℕ → Data → Data → CertFigure → Data
+abbrev pub index_data : Certificate → ℕ → CertTerm → CertTerm → CertFigure → Data
 index_data c days near next figure = object_from (
     (codes "cents", whole_number figure.cents)
     ∷ (codes "days", whole_number days)
     ∷ (codes "ends", two_wide figure.lo figure.hi)
     ∷ (codes "kind", string (codes "index"))
     ∷ (codes "line", whole_number c.line)
-    ∷ (codes "near", near)
-    ∷ (codes "next", next)
+    ∷ (codes "near", term_data near)
+    ∷ (codes "next", term_data next)
     ∷ (codes "time", string (clock_text c.time))
     ∷ (codes "v", whole_number c.v)
     ∷ (codes "x", ends_data figure.x)
     ∷ [])
 
--- the text names the day; no other text does
-abbrev pub NamesDay : List ℕ → DayNo → Type 0
-NamesDay text day = day_of_text text ≡ Ok day
+-- a certificate by its body
+abbrev pub data_by_kind : Certificate → CertBody → Data
+data_by_kind c (K0 expiry pair k0) = level_data c expiry pair k0
+data_by_kind c (Single term figure) = one_term_data (codes "single") c term figure
+data_by_kind c (Index days near next figure) = index_data c days near next figure
+data_by_kind c (Soq term figure) = one_term_data (codes "soq") c term figure
 
--- what a term is written as
-abbrev pub IsTermData : CertTerm → Data → Type 0
-IsTermData term d = (date : List ℕ) × NamesDay date term.expiry.date × (d ≡ term_data date term)
-
--- what the body of a certificate makes it be written as
-abbrev pub IsDataOf : Certificate → CertBody → Data → Type 0
-IsDataOf c (K0 expiry pair k0) d =
-    (date : List ℕ) × NamesDay date expiry.date × (d ≡ level_data c date expiry.root pair k0)
-IsDataOf c (Single term figure) d =
-    (inner : Data) × IsTermData term inner × (d ≡ one_term_data (codes "single") c inner figure)
-IsDataOf c (Index days near next figure) d =
-    (first second : Data) × IsTermData near first × IsTermData next second × (d ≡ index_data c days first second figure)
-IsDataOf c (Soq term figure) d =
-    (inner : Data) × IsTermData term inner × (d ≡ one_term_data (codes "soq") c inner figure)
+abbrev pub certificate_data : Certificate → Data
+certificate_data c = data_by_kind c c.body
 
 -- the line that a certificate is written as, with its LF (10)
-abbrev pub IsCertificateText : Certificate → List ℕ → Type 0
-IsCertificateText c text = (d : Data) × IsDataOf c c.body d × (text ≡ compact_text d ++ 10 ∷ [])
+abbrev pub certificate_text : Certificate → List ℕ
+certificate_text c = compact_text (certificate_data c) ++ 10 ∷ []

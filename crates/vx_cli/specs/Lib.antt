@@ -2,6 +2,7 @@ pub mod CheckRuns
 pub mod CheckText
 pub mod Checking
 pub mod ExitText
+pub mod DrillText
 pub mod Exits
 pub mod Failures
 pub mod Operands
@@ -10,4 +11,5 @@ pub mod Reading
 pub mod ReplayText
 pub mod Requests
 pub mod Runs
+pub mod SettleText
 pub mod Words

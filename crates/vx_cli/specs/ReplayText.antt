@@ -6,7 +6,7 @@ use Rattle.vx_clock.specs.declared.limits.TheConstants.{INDEX_DAYS, INDEX_WINDOW
 use Rattle.vx_feed.specs.declared.events.Event.{Event}
 use Rattle.vx_feed.specs.declared.events.Event.TheVariants as event
 use Rattle.vx_feed.specs.Feed.{BadLine, lawful_prefix, bad_line}
-use Rattle.vx_cert.specs.Written.{IsCertificateText}
+use Rattle.vx_cert.specs.Written.{certificate_text}
 use Rattle.vx_term.specs.declared.answer.TermRefusal.{TermRefusal}
 use Rattle.vx_term.specs.declared.answer.TermRefusal.TheVariants as refusal
 use Rattle.vx_replay.specs.declared.answer.TickAnswer.{TickAnswer}
@@ -77,9 +77,9 @@ pub record AnswerTicks (days window : ℕ) (events : List Event) (answers : List
   pub each : All (λ a. IsTickAnswer days window events a.tick.line a.tick.time a.answer) answers
 
 -- the line of an answer's certificate; nothing where it has none
-abbrev pub IsCertificateOf : TickAnswer → Text → Type 0
-IsCertificateOf (Published cents lo hi certificate) text = IsCertificateText certificate text
-IsCertificateOf _ text = text ≡ []
+abbrev pub certified_text : TickAnswer → Text
+certified_text (Published cents lo hi certificate) = certificate_text certificate
+certified_text _ = []
 
 -- the answers by their kinds
 abbrev pub is_published : TickAnswer → Bool
@@ -118,10 +118,9 @@ abbrev pub end_unless_bad : Option BadLine → Text → Text
 end_unless_bad None text = text
 end_unless_bad (Some bad) text = []
 
--- the text holds the certificate of each published answer, in order
-abbrev pub AreCertificates : List Answered → Text → Type 0
-AreCertificates [] text = text ≡ []
-AreCertificates (a ∷ answers) text = (first rest : Text) × IsCertificateOf a.answer first × AreCertificates answers rest × (text ≡ first ++ rest)
+-- the certificates of the published answers, in order
+abbrev pub certificate_lines : List Answered → Text
+certificate_lines answers = concat (map (λ a. certified_text a.answer) answers)
 
 -- what `replay` of a feed's text writes to the output and to the file of certificates, for so many days within a window: all ticks of
 -- the lawful prefix are answered
@@ -129,7 +128,7 @@ pub record ReplaysFor (days window : ℕ) (feed : List ℕ) (out certs : Text) :
   pub answers : List Answered
   pub are_answers : AnswerTicks days window (lawful_prefix feed) answers
   pub out_is : out ≡ answer_lines days answers ++ end_unless_bad (bad_line feed) (replay_end answers)
-  pub are_certificates : AreCertificates answers certs
+  pub certs_are : certs ≡ certificate_lines answers
 
 -- the index is that of 30 days
 abbrev pub Replays : List ℕ → Text → Text → Type 0

@@ -45,7 +45,8 @@ pub(crate) enum Reason {
 fn push_clock(line: &mut Vec<u8>, time: u16) -> Result<(), NoMemory>
     ensures { OnOk result (line.new.items ≡ line.old.items ++ clock_text time) }
 {
-    line.extend_from_slice(&write_clock(time)).map_err(|_| NoMemory)
+    line.extend_from_slice(&write_clock(time))
+        .map_err(|_| NoMemory)
 }
 
 fn push_figure(alloc: Global, line: &mut Vec<u8>, figure: Figure) -> Result<(), NoMemory>

@@ -34,7 +34,10 @@ pub enum TickAnswer {
         certificate: Certificate,
     },
     /// A rounding boundary lies between the index's ends, in millionths of a point.
-    UndecidedCents { lo: i64, hi: i64 },
+    UndecidedCents {
+        lo: i64,
+        hi: i64,
+    },
     /// A listed strike, in thousandths of a point, lies between the ends of a term's forward, in units
     /// of `10^-12` point.
     UndecidedForward {
