@@ -10,3 +10,4 @@ pub mod StrikeCases
 pub mod EndLemmas
 pub mod RowDecisions
 pub mod TermOutcomes
+pub mod TickOutcomes

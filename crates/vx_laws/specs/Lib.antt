@@ -3,3 +3,4 @@ pub mod FeedDays
 pub mod NextEvents
 pub mod StrikesByEnds
 pub mod TermOutcomes
+pub mod TickOutcomes

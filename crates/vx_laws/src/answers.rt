@@ -2,6 +2,7 @@
 //! its clauses are the laws.
 
 ghost use Rattle.vx_laws.specs.TermOutcomes.{TermOfFactsIsOne, TermIsAnswered, RefusedIsNotSound, UndecidedComesFirst};
+ghost use Rattle.vx_laws.specs.TickOutcomes.{TickIsAnswered, RefusedTickIsNotSound, UndecidedNearComesFirst, UndecidedNextComesFirst};
 ghost use Rattle.vx_laws.specs.StrikesByEnds.{EndsAreInOrder, StrikesLieOneWay, LowestBetweenIsOne, GreatestAtMostIsOne, AllAboveIsBelowAll, GreatestAtMostIsLevel, EndsDecideOrNot};
 
 /// By two ends the listed strikes lie in just one of three ways: one lies between them, or all are above,
@@ -27,4 +28,13 @@ pub fn term_is_answered()
     ensures answered { TermIsAnswered }
     ensures refused { RefusedIsNotSound }
     ensures undecided { UndecidedComesFirst }
+{}
+
+/// A tick whose terms are in range, with narrow ends around their forwards, has a first refusal of a term,
+/// or the ends leave a forward undecided, or both terms have a level and no refusal.
+pub fn tick_is_answered()
+    ensures answered { TickIsAnswered }
+    ensures refused { RefusedTickIsNotSound }
+    ensures undecided_near { UndecidedNearComesFirst }
+    ensures undecided_next { UndecidedNextComesFirst }
 {}
