@@ -1,1 +1,5 @@
 pub mod Sums
+pub mod Totals
+-- sums that are kept, and which of their rows are used again
+pub mod Kept
+pub mod Matching

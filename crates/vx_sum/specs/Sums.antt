@@ -1,9 +1,11 @@
 -- The rounded contributions of a strip's entries, in units of 2^-P, and their sums. This project's own; the exact contribution is
 -- that of the formula.
-use Rattle.std.specs.Prelude.{◌≡◌, ℕ, ◌*◌, ◌/◌, ◌^◌, ◌≤◌, pos, List, map, sum_by}
+use Rattle.std.specs.Prelude.{◌≡◌, ℕ, ◌*◌, ◌/◌, ◌^◌, ◌<◌, ◌≤◌, pos, List, map, sum_by}
 use Rattle.vx_interval.specs.Ends.{Ends}
 use Rattle.vx_formula.specs.declared.limits.TheConstants.{STRIP_TOTAL_MAX}
 use Rattle.vx_formula.specs.Strip.{StripEntry, upper_end, upper_total}
+use Rattle.vx_sum.specs.declared.fault.SumRefusal.{SumRefusal}
+use Rattle.vx_sum.specs.declared.fault.SumRefusal.TheVariants.{NoMemory, StripTooLarge}
 use Rattle.vx_sum.specs.declared.sum.SumRow.{SumRow}
 use Rattle.vx_sum.specs.declared.sum.StripSum.{StripSum}
 
@@ -31,3 +33,13 @@ pub record IsSumOf (P : ℕ) (entries : List StripEntry) (s : StripSum P) : Type
   pub rows : s.rows ≡ map (row_ends P) entries
   pub total : s.total ≡ total_ends P entries
   pub accepted : IsAccepted P entries
+
+-- `upper` is the sum of the rounded-up contributions, and is too much
+pub record IsTooLargeBy (P : ℕ) (entries : List StripEntry) (upper : ℕ) : Type 0 where
+  pub upper_is : upper ≡ upper_total P entries
+  pub too_large : STRIP_TOTAL_MAX * 2 ^ P < upper
+
+-- why the entries have no sum; want of memory has no cause
+abbrev pub IsSumRefusal : ℕ → List StripEntry → SumRefusal → Type 0
+IsSumRefusal P entries NoMemory = Unit {0}
+IsSumRefusal P entries (StripTooLarge upper) = IsTooLargeBy P entries upper

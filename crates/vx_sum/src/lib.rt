@@ -3,8 +3,13 @@
 //! The exact contribution and its rounded-up end are those of `vx_formula`; this crate divides.
 #![tactic(auto)]
 
+mod divide;
 mod fault;
+mod matching;
 pub mod sum;
+mod summing;
+mod totals;
 
 pub use fault::SumRefusal;
 pub use sum::{StripSum, SumRow, SumRows};
+pub use summing::sum_strip;

@@ -1,6 +1,6 @@
 //! The sum as the program holds it.
 
-ghost use Rattle.std.specs.Prelude.{◌≡◌, List, [], ◌∷◌, ◌++◌, OnOk, OnErr};
+ghost use Rattle.std.specs.Prelude.{◌≡◌, List, [], ◌∷◌, ◌++◌, IfOk, OnOk, OnErr};
 
 use std::alloc::Global;
 use std::marker::Model;
@@ -39,6 +39,14 @@ impl SumRows {
         SumRows {
             list: Vec::new(alloc),
         }
+    }
+
+    /// The empty list, with the memory of so many rows.
+    pub(crate) fn with_room(alloc: Global, count: usize) -> Result<SumRows, NoMemory>
+        ensures { IfOk result (λ rows. rows ≡ []) }
+    {
+        let list = Vec::with_capacity(alloc, count).map_err(|_| NoMemory)?;
+        Ok(SumRows { list })
     }
 
     /// Puts a row last. After a refusal the list is unchanged.

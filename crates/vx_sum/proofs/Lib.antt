@@ -1,0 +1,4 @@
+pub mod Division
+pub mod Matches
+pub mod RowByRow
+pub mod Enclosure
