@@ -11,3 +11,4 @@ pub mod EndLemmas
 pub mod RowDecisions
 pub mod TermOutcomes
 pub mod TickOutcomes
+pub mod SampleTextProofs

@@ -16,7 +16,7 @@ use Rattle.vx_formula.proofs.Lists.{in_from_contains, all_in}
 use Rattle.vx_laws.specs.TermDays.{september_23, september_24, standard_17, weekly_24, weekly_31, three_expiries, DaysAreNumbered, NearOfSeptember23, NextOfSeptember23, NearOfSeptember24, NextOfSeptember24, NoNearOfNone, NoNextOfNone}
 
 -- the number of a day of 2014 by its place in the year
-in_2014 : (m d place : ℕ) → day_of_year (pos 2014) m d ≡ place → 1 ≤ d → day_number 2014 m d ≡ pos (16070 + place)
+pub in_2014 : (m d place : ℕ) → day_of_year (pos 2014) m d ≡ place → 1 ≤ d → day_number 2014 m d ≡ pos (16070 + place)
 in_2014 m d place e first =
     omega (arith, signed_arith, days_from_civil-day_count (pos 2014) m d, day_count-day_of_year (pos 2014) m d first, year_start (pos 2014) 12013 refl (omega arith))
 

@@ -4,3 +4,4 @@ pub mod NextEvents
 pub mod StrikesByEnds
 pub mod TermOutcomes
 pub mod TickOutcomes
+pub mod SampleText

@@ -1,6 +1,7 @@
 //! Worked days. Each function does nothing: its clauses are the example.
 
 ghost use Rattle.vx_laws.specs.TermDays.{DaysAreNumbered, NearOfSeptember23, NextOfSeptember23, NearOfSeptember24, NextOfSeptember24, NoNearOfNone, NoNextOfNone};
+ghost use Rattle.vx_laws.specs.SampleText.{SampleTextIsRead, SampleTextIsLawful};
 ghost use Rattle.vx_laws.specs.FeedDays.{SampleIsLawful, SampleShowsRows, UncrossedStands, CrossedIsLawful, CrossedStandsNot, CrossedShowsNoCall, CrossedHasNoPair, CrossedPairIsBeside, CrossedForward, CrossedLevel, CrossedLacksMoney};
 
 /// The two terms of the index on 2014-09-23 and on the day after.
@@ -22,6 +23,12 @@ pub fn terms_of_none()
 pub fn sample_feed()
     ensures lawful { SampleIsLawful }
     ensures rows { SampleShowsRows }
+{}
+
+/// The text of that feed is read as its events, and is a lawful feed.
+pub fn sample_text()
+    ensures read { SampleTextIsRead }
+    ensures lawful { SampleTextIsLawful }
 {}
 
 /// A crossed quote takes the standing quote away, and what the rows then show.
