@@ -4,6 +4,7 @@ pub mod CauseLemmas
 pub mod OrderExamples
 pub mod LawfulLists
 pub mod EventRanges
+pub mod EndLaws
 pub mod ReadingLemmas
 pub mod BestOf
 pub mod StrikeCases

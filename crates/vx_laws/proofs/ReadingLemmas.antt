@@ -12,6 +12,7 @@ use Rattle.vx_feed.specs.Feed.{event_unless, event_in_order, next_event, event_o
 use Rattle.vx_feed.specs.Order.{is_end, order_fault, IsLawfulNext, AreLawful}
 use Rattle.vx_laws.specs.NextEvents.{PrefixIsLawful, BadLineFollowsPrefix, BadLineIsOne, LawfulFeedEnds}
 use Rattle.vx_laws.proofs.EventRanges.{past_fault, past_test, event_in_range}
+use Rattle.vx_laws.proofs.EndLaws.{end_is_last}
 use Rattle.vx_laws.proofs.LawfulLists.{lawful_with_one_more}
 
 -- ---- the event of a line may come next
@@ -100,4 +101,4 @@ pub bad_line_is_one : BadLineIsOne
 bad_line_is_one text a b h k = let both : Some a ≡ Some b = sym h ∙ k in cc
 
 pub lawful_feed_ends : LawfulFeedEnds
-lawful_feed_ends text h = ((told text).lawful, (told text).ends h)
+lawful_feed_ends text h = ((told text).lawful, end_is_last (reading_of text).events (told text).lawful ((told text).ends h))

@@ -1,6 +1,6 @@
 -- What may come next in a feed, fault by fault. An event's causes stand in a list with their faults, and the fault of the first
 -- cause that holds is answered.
-use Rattle.std.specs.Prelude.{◌≡◌, ℕ, Bool, true, false, ◌+◌, ◌↔◌, List, [], ◌∷◌, ◌++◌, length, map, Some, None}
+use Rattle.std.specs.Prelude.{◌≡◌, ℕ, Bool, true, false, ◌+◌, ◌-◌, ◌↔◌, List, [], ◌∷◌, ◌++◌, length, map, Some, None}
 use Rattle.std.specs.List.{list_any}
 use Rattle.vx_feed.specs.declared.events.Event.{Event}
 use Rattle.vx_feed.specs.declared.events.Event.TheVariants as event
@@ -116,6 +116,16 @@ BadLineFollowsPrefix = (text : List ℕ) (bad : BadLine) → bad_line text ≡ S
 abbrev pub BadLineIsOne : Type 0
 BadLineIsOne = (text : List ℕ) (a b : BadLine) → bad_line text ≡ Some a → bad_line text ≡ Some b → a ≡ b
 
--- the events of a lawful feed are lawful, with an END line among them
+-- the last of the events, and no other, is an END, which counts the events between the first and it
+pub record EndWithCount (events : List Event) : Type 0 where
+  pub front : List Event
+  pub parts : events ≡ front ++ event.End (length front - 1) ∷ []
+  pub none_before : list_any is_end front ≡ false
+
+-- a lawful list with an END among its events ends with it
+abbrev pub EndIsLast : Type 0
+EndIsLast = (events : List Event) → AreLawful events → list_any is_end events ≡ true → EndWithCount events
+
+-- so do the events of a lawful feed, which are lawful
 abbrev pub LawfulFeedEnds : Type 0
-LawfulFeedEnds = (text : List ℕ) → IsLawfulFeed text → AreLawful (lawful_prefix text) × (list_any is_end (lawful_prefix text) ≡ true)
+LawfulFeedEnds = (text : List ℕ) → IsLawfulFeed text → AreLawful (lawful_prefix text) × EndWithCount (lawful_prefix text)

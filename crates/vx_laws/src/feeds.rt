@@ -1,6 +1,6 @@
 //! What may come next in a feed. Each function does nothing: its clauses are the laws.
 
-ghost use Rattle.vx_laws.specs.NextEvents.{FaultIsOfFirstCause, InOrderHasNoCause, FaultsByCause, HeaderAfterEnd, EarlyQuoteAfterEnd, OtherCountAfterEnd, EarlySecondOpening, LeadingPartsAreLawful, OneMoreIsLawful, PrefixIsLawful, BadLineFollowsPrefix, BadLineIsOne, LawfulFeedEnds};
+ghost use Rattle.vx_laws.specs.NextEvents.{FaultIsOfFirstCause, InOrderHasNoCause, FaultsByCause, HeaderAfterEnd, EarlyQuoteAfterEnd, OtherCountAfterEnd, EarlySecondOpening, LeadingPartsAreLawful, OneMoreIsLawful, EndIsLast, PrefixIsLawful, BadLineFollowsPrefix, BadLineIsOne, LawfulFeedEnds};
 
 /// The fault of an event is that of the first cause that holds, and an event is in order where none does.
 pub fn first_cause_is_answered()
@@ -21,10 +21,11 @@ pub fn order_decides()
     ensures early_second_opening { EarlySecondOpening }
 {}
 
-/// Lawful lists of events, by their leading parts and event by event.
+/// Lawful lists of events, by their leading parts and event by event; an END among them is the last.
 pub fn lawful_lists()
     ensures leading { LeadingPartsAreLawful }
     ensures one_more { OneMoreIsLawful }
+    ensures end { EndIsLast }
 {}
 
 /// The lawful prefix of a text, and its one bad line, which is the line after it.
