@@ -3,3 +3,4 @@ pub mod Variance
 pub mod Index
 pub mod Runs
 pub mod Answer
+pub mod Laws

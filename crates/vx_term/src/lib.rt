@@ -1,9 +1,11 @@
 //! One term's variance: the numbers on the way to it, in bounded arithmetic, or why there is none.
 //!
-//! Today this crate has the types and the definition of the answer; the calls come with the
-//! calculator.
+//! Today this crate has the types, the definition of the answer, and that there is at most one; the
+//! calls come with the calculator.
 #![tactic(auto)]
 
 mod answer;
+mod laws;
 
 pub use answer::{TermAnswer, TermRefusal, TermRun};
+pub use laws::term_answer_is_one;

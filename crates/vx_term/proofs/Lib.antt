@@ -1,0 +1,4 @@
+-- a run is one
+pub mod RunIsOne
+-- and so is the answer
+pub mod TermAnswerIsOne
