@@ -11,7 +11,7 @@ use Rattle.vx_formula.specs.Between.{forward_units}
 use Rattle.vx_bracket.proofs.Members.{bracket_has_member}
 use Rattle.vx_formula.proofs.Ends.{whole_at_most}
 use Rattle.vx_formula.proofs.LevelLemmas.{exponent_proper}
-use Rattle.vx_laws.specs.StrikesByEnds.{EndsAreInOrder, AllAboveIsBelowAll, GreatestAtMostIsLevel, EndsDecideOrNot}
+use Rattle.vx_laws.specs.StrikesByEnds.{EndsAreInOrder, AllAboveIsBelowAll, LevelByEndsIsLevel, EndsDecideOrNot}
 use Rattle.vx_laws.proofs.StrikeCases.{lie_one_way}
 
 -- a fraction t/b by its bounds in units
@@ -50,7 +50,7 @@ all_above_is_below_all term lo hi h above = record {
       below_strike (forward_at term.pair e) hi strike (forward_proper term.pair e member.proper) (h.at_most e member) (above strike listed);
 }
 
-pub greatest_at_most_is_level : GreatestAtMostIsLevel
+pub greatest_at_most_is_level : LevelByEndsIsLevel
 greatest_at_most_is_level term lo hi k h greatest = record {
   depth = h.depth;
   holds = λ e member.
@@ -72,7 +72,7 @@ ends_decide_or_not term lo hi h narrow =
           between = h;
           narrow = narrow;
           listed = found.1.listed;
-          straddles = found.1.between;
+          straddles = found.1.straddles;
           lowest = found.1.lowest;
         },
       )

@@ -7,7 +7,8 @@ use Rattle.vx_formula.specs.declared.limits.TheConstants.{FORWARD_UNITS}
 use Rattle.vx_formula.specs.Level.{strikes}
 use Rattle.vx_formula.specs.Undecided.{StrikeStraddles}
 use Rattle.vx_formula.proofs.Lists.{In, in_from_contains, contains_from_in}
-use Rattle.vx_laws.specs.StrikesByEnds.{IsLowestBetween, AreAllAbove, IsGreatestAtMost, StrikesLieOneWay, LowestBetweenIsOne, GreatestAtMostIsOne}
+use Rattle.vx_forward.specs.Level.{IsLowestBetween}
+use Rattle.vx_laws.specs.StrikesByEnds.{AreAllAbove, IsLevelByEnds, StrikesLieOneWay, LowestBetweenIsOne, LevelByEndsIsOne}
 use Rattle.vx_laws.proofs.BestOf.{Best, best_or_none}
 
 abbrev IsAtMost : ℤ → ℕ → Type 0
@@ -43,11 +44,11 @@ GreatestOf ks lo k = Best (IsAtMost lo) (λ a b. b ≤ a) ks k
 lowest_of : (rows : List StrikeRow) (lo hi : ℤ) (k : ℕ) → LowestOf (strikes rows) lo hi k → IsLowestBetween rows lo hi k
 lowest_of rows lo hi k h = record {
   listed = contains_from_in (strikes rows) k h.among;
-  between = h.counts;
+  straddles = h.counts;
   lowest = λ other listed. h.first other (in_from_contains (strikes rows) other listed);
 }
 
-greatest_of : (rows : List StrikeRow) (lo hi : ℤ) (k : ℕ) → ((other : ℕ) → In (strikes rows) other → ¬ StrikeStraddles lo hi other) → GreatestOf (strikes rows) lo k → IsGreatestAtMost rows lo hi k
+greatest_of : (rows : List StrikeRow) (lo hi : ℤ) (k : ℕ) → ((other : ℕ) → In (strikes rows) other → ¬ StrikeStraddles lo hi other) → GreatestOf (strikes rows) lo k → IsLevelByEnds rows lo hi k
 greatest_of rows lo hi k none h = record {
   listed = contains_from_in (strikes rows) k h.among;
   at_most = h.counts;
@@ -56,7 +57,7 @@ greatest_of rows lo hi k none h = record {
       is_beyond lo hi other (none other inside) (λ low. let order : other ≤ k = h.first other inside low in omega arith);
 }
 
-pub lie_one_way : (rows : List StrikeRow) (lo hi : ℤ) → ((strike : ℕ) × IsLowestBetween rows lo hi strike) ⊎ (AreAllAbove rows hi ⊎ ((k : ℕ) × IsGreatestAtMost rows lo hi k))
+pub lie_one_way : (rows : List StrikeRow) (lo hi : ℤ) → ((strike : ℕ) × IsLowestBetween rows lo hi strike) ⊎ (AreAllAbove rows hi ⊎ ((k : ℕ) × IsLevelByEnds rows lo hi k))
 lie_one_way rows lo hi =
     elim (best_or_none (StrikeStraddles lo hi) (λ a b. a ≤ b) (straddles_or_not lo hi) (λ k. omega arith) rising_total (λ a b c h k. omega arith) (strikes rows)) [
       | inl found ↦ inl (found.0, lowest_of rows lo hi found.0 found.1)
@@ -70,20 +71,20 @@ lie_one_way rows lo hi =
 
 between_not_above : (rows : List StrikeRow) (lo hi : ℤ) → ((strike : ℕ) × IsLowestBetween rows lo hi strike) → AreAllAbove rows hi → ⊥
 between_not_above rows lo hi (strike, h) above =
-    let within = h.between.at_most in
+    let within = h.straddles.at_most in
     let beyond = above strike h.listed in
     omega (arith, ints)
 
-between_not_greatest : (rows : List StrikeRow) (lo hi : ℤ) → ((strike : ℕ) × IsLowestBetween rows lo hi strike) → ((k : ℕ) × IsGreatestAtMost rows lo hi k) → ⊥
+between_not_greatest : (rows : List StrikeRow) (lo hi : ℤ) → ((strike : ℕ) × IsLowestBetween rows lo hi strike) → ((k : ℕ) × IsLevelByEnds rows lo hi k) → ⊥
 between_not_greatest rows lo hi (strike, h) (k, l) =
-    let above = h.between.above in
-    let within = h.between.at_most in
+    let above = h.straddles.above in
+    let within = h.straddles.at_most in
     let low = l.at_most in
     let less : k < strike = omega (arith, ints) in
     let beyond = l.others_above strike h.listed less in
     omega (arith, ints)
 
-above_not_greatest : (rows : List StrikeRow) (lo hi : ℤ) → lo ≤ℤ hi → AreAllAbove rows hi → ((k : ℕ) × IsGreatestAtMost rows lo hi k) → ⊥
+above_not_greatest : (rows : List StrikeRow) (lo hi : ℤ) → lo ≤ℤ hi → AreAllAbove rows hi → ((k : ℕ) × IsLevelByEnds rows lo hi k) → ⊥
 above_not_greatest rows lo hi order above (k, l) =
     let low = l.at_most in
     let beyond = above k l.listed in
@@ -99,17 +100,17 @@ strikes_lie_one_way rows lo hi order = record {
 
 pub lowest_between_is_one : LowestBetweenIsOne
 lowest_between_is_one rows lo hi a b h l =
-    let one = h.lowest b l.listed l.between in
-    let other = l.lowest a h.listed h.between in
+    let one = h.lowest b l.listed l.straddles in
+    let other = l.lowest a h.listed h.straddles in
     omega arith
 
-not_above : (rows : List StrikeRow) (lo hi : ℤ) (a b : ℕ) → lo ≤ℤ hi → IsGreatestAtMost rows lo hi a → IsGreatestAtMost rows lo hi b → a < b → ⊥
+not_above : (rows : List StrikeRow) (lo hi : ℤ) (a b : ℕ) → lo ≤ℤ hi → IsLevelByEnds rows lo hi a → IsLevelByEnds rows lo hi b → a < b → ⊥
 not_above rows lo hi a b order h l less =
     let beyond = h.others_above b l.listed less in
     let low = l.at_most in
     omega (arith, ints)
 
-pub greatest_at_most_is_one : GreatestAtMostIsOne
+pub greatest_at_most_is_one : LevelByEndsIsOne
 greatest_at_most_is_one rows lo hi a b order h l =
     elim (cases_lt a b) [
       | inl less ↦ absurd (not_above rows lo hi a b order h l less)

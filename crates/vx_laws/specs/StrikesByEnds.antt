@@ -7,6 +7,7 @@ use Rattle.vx_formula.specs.Level.{IsListed, IsLevel}
 use Rattle.vx_formula.specs.Between.{ForwardBetween}
 use Rattle.vx_formula.specs.Refusal.{IsBelowAll}
 use Rattle.vx_formula.specs.Undecided.{StrikeStraddles, UndecidedForward}
+use Rattle.vx_forward.specs.Level.{IsLowestBetween}
 
 -- just one of three holds
 pub record JustOne (A B C : Type 0) : Type 0 where
@@ -17,18 +18,12 @@ pub record JustOne (A B C : Type 0) : Type 0 where
 
 -- ---- where listed strikes lie by two ends, in units of 10^-12 point
 
--- the lowest listed strike above the low end and at most the high end
-pub record IsLowestBetween (rows : List StrikeRow) (lo hi : ℤ) (strike : ℕ) : Type 0 where
-  pub listed : IsListed rows strike
-  pub between : StrikeStraddles lo hi strike
-  pub lowest : (other : ℕ) → IsListed rows other → StrikeStraddles lo hi other → strike ≤ other
-
 -- every listed strike is above the high end
 abbrev pub AreAllAbove : List StrikeRow → ℤ → Type 0
 AreAllAbove rows hi = (strike : ℕ) → IsListed rows strike → hi <ℤ (pos FORWARD_UNITS *ℤ pos strike)
 
 -- k is listed and at most the low end, and every listed strike above it is above the high end
-pub record IsGreatestAtMost (rows : List StrikeRow) (lo hi : ℤ) (k : ℕ) : Type 0 where
+pub record IsLevelByEnds (rows : List StrikeRow) (lo hi : ℤ) (k : ℕ) : Type 0 where
   pub listed : IsListed rows k
   pub at_most : (pos FORWARD_UNITS *ℤ pos k) ≤ℤ lo
   pub others_above : (other : ℕ) → IsListed rows other → k < other → hi <ℤ (pos FORWARD_UNITS *ℤ pos other)
@@ -36,14 +31,14 @@ pub record IsGreatestAtMost (rows : List StrikeRow) (lo hi : ℤ) (k : ℕ) : Ty
 -- just one of these three, for rows in any order
 abbrev pub StrikesLieOneWay : Type 0
 StrikesLieOneWay = (rows : List StrikeRow) (lo hi : ℤ) → lo ≤ℤ hi →
-    JustOne ((strike : ℕ) × IsLowestBetween rows lo hi strike) (AreAllAbove rows hi) ((k : ℕ) × IsGreatestAtMost rows lo hi k)
+    JustOne ((strike : ℕ) × IsLowestBetween rows lo hi strike) (AreAllAbove rows hi) ((k : ℕ) × IsLevelByEnds rows lo hi k)
 
 -- and at most one strike is meant in each
 abbrev pub LowestBetweenIsOne : Type 0
 LowestBetweenIsOne = (rows : List StrikeRow) (lo hi : ℤ) (a b : ℕ) → IsLowestBetween rows lo hi a → IsLowestBetween rows lo hi b → a ≡ b
 
-abbrev pub GreatestAtMostIsOne : Type 0
-GreatestAtMostIsOne = (rows : List StrikeRow) (lo hi : ℤ) (a b : ℕ) → lo ≤ℤ hi → IsGreatestAtMost rows lo hi a → IsGreatestAtMost rows lo hi b → a ≡ b
+abbrev pub LevelByEndsIsOne : Type 0
+LevelByEndsIsOne = (rows : List StrikeRow) (lo hi : ℤ) (a b : ℕ) → lo ≤ℤ hi → IsLevelByEnds rows lo hi a → IsLevelByEnds rows lo hi b → a ≡ b
 
 -- ---- what two ends around a forward say of the level
 
@@ -56,8 +51,8 @@ abbrev pub AllAboveIsBelowAll : Type 0
 AllAboveIsBelowAll = (term : Term) (lo hi : ℤ) → ForwardBetween term lo hi → AreAllAbove term.rows hi → IsBelowAll term
 
 -- and the greatest strike at most the low end, with none between the ends, is the level
-abbrev pub GreatestAtMostIsLevel : Type 0
-GreatestAtMostIsLevel = (term : Term) (lo hi : ℤ) (k : ℕ) → ForwardBetween term lo hi → IsGreatestAtMost term.rows lo hi k → IsLevel term k
+abbrev pub LevelByEndsIsLevel : Type 0
+LevelByEndsIsLevel = (term : Term) (lo hi : ℤ) (k : ℕ) → ForwardBetween term lo hi → IsLevelByEnds term.rows lo hi k → IsLevel term k
 
 -- so narrow ends leave the forward undecided, or no listed strike is at or below it, or there is a level. The last two exclude
 -- each other. The first excludes neither: a deeper bracket may tell what these ends cannot

@@ -3,21 +3,21 @@
 
 ghost use Rattle.vx_laws.specs.TermOutcomes.{TermOfFactsIsOne, TermIsAnswered, RefusedIsNotSound, UndecidedComesFirst};
 ghost use Rattle.vx_laws.specs.TickOutcomes.{TickIsAnswered, RefusedTickIsNotSound, UndecidedNearComesFirst, UndecidedNextComesFirst};
-ghost use Rattle.vx_laws.specs.StrikesByEnds.{EndsAreInOrder, StrikesLieOneWay, LowestBetweenIsOne, GreatestAtMostIsOne, AllAboveIsBelowAll, GreatestAtMostIsLevel, EndsDecideOrNot};
+ghost use Rattle.vx_laws.specs.StrikesByEnds.{EndsAreInOrder, StrikesLieOneWay, LowestBetweenIsOne, LevelByEndsIsOne, AllAboveIsBelowAll, LevelByEndsIsLevel, EndsDecideOrNot};
 
 /// By two ends the listed strikes lie in just one of three ways: one lies between them, or all are above,
 /// or there is a greatest one at most the low end with all others above the high end.
 pub fn strikes_lie_one_way()
     ensures just_one { StrikesLieOneWay }
     ensures lowest { LowestBetweenIsOne }
-    ensures greatest { GreatestAtMostIsOne }
+    ensures greatest { LevelByEndsIsOne }
 {}
 
 /// Narrow ends around a forward leave it undecided, or every listed strike is above it, or there is a level.
 pub fn ends_decide_or_not()
     ensures in_order { EndsAreInOrder }
     ensures below_all { AllAboveIsBelowAll }
-    ensures level { GreatestAtMostIsLevel }
+    ensures level { LevelByEndsIsLevel }
     ensures either { EndsDecideOrNot }
 {}
 
