@@ -7,7 +7,7 @@ use Rattle.std.proofs.Math.Pow.{pow_mono}
 use lib.Signed.{mag}
 use Rattle.vx_num.specs.Fraction.{Fraction, whole, ◌*ᶠ◌}
 use Rattle.vx_num.specs.Quotient.{IsFloor, IsCeiling}
-use Rattle.vx_num.proofs.Whole.{mul_mono, mul_nonneg, neg_mul}
+use Rattle.vx_num.proofs.Whole.{mul_mono, mul_mono_left, mul_anti_left, mul_nonneg, neg_mul}
 use Rattle.vx_interval.specs.Rounding.{floor_of, ceiling_of}
 use Rattle.vx_interval.specs.Ends.{Ends, IsScale, IsInRange, unit, width, exact_ends, add_ends, scale_ends}
 use Rattle.vx_interval.specs.Membership.{IsMember}
@@ -18,6 +18,7 @@ use Rattle.vx_interval.proofs.Ranges.{cast, cast_is}
 use Rattle.vx_interval.proofs.Widths.{within, from_within, add_width, scale_width}
 use Rattle.vx_formula.specs.Pair.{Pair}
 use Rattle.vx_formula.specs.Forward.{forward_at}
+use Rattle.vx_forward.specs.Laws.{ForwardReachesEnds}
 use Rattle.vx_forward.specs.Forward.{IsForwardInRange, forward_interval}
 
 pub unit_at_most : (P : ℕ) → IsScale P → unit P ≤ℤ pos (2 ^ 62)
@@ -113,6 +114,20 @@ forward_width P pair e =
     let a : width (scale_ends e k) ≡ pos (5 * nat_abs pair.d) *ℤ width e = scale_width e k ∙ ap (λ n. pos n *ℤ width e) (unsigned_abs-mul (pos 5) pair.d) in
     let b = add_width (exact_ends P (pos pair.strike)) (scale_ends e k) in
     b ∙ omega (arith, ints, a)
+
+spread_reaches : (e : Ends) (k : ℤ) → e.lo ≤ℤ e.hi →
+    ((scale_ends e k).lo ≤ℤ (k *ℤ e.lo)) × ((scale_ends e k).lo ≤ℤ (k *ℤ e.hi)) × ((k *ℤ e.lo) ≤ℤ (scale_ends e k).hi) × ((k *ℤ e.hi) ≤ℤ (scale_ends e k).hi)
+spread_reaches e (pos k) h =
+    let m = mul_mono_left e.lo e.hi (pos k) (omega (arith, ints)) h in
+    (omega (arith, ints), m, m, omega (arith, ints))
+spread_reaches e (negsuc k) h =
+    let m = mul_anti_left e.lo e.hi (negsuc k) (omega (arith, ints)) h in
+    (m, omega (arith, ints), omega (arith, ints), m)
+
+pub forward_reaches : ForwardReachesEnds
+forward_reaches P pair e h =
+    let s = spread_reaches e (pos 5 *ℤ pair.d) h in
+    (omega (arith, ints, s), omega (arith, ints, s), omega (arith, ints, s), omega (arith, ints, s))
 
 -- ---- what is printed
 

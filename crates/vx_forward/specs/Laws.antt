@@ -18,6 +18,13 @@ use Rattle.vx_forward.specs.Level.{IsLevelRow, IsK0Answer, SaysOfForward}
 abbrev pub ForwardIsEnclosed : Type 0
 ForwardIsEnclosed = (P : ℕ) (pair : Pair) (e : Ends) (x : Fraction) → IsMember P e x → IsMember P (forward_interval P pair e) (forward_at pair x)
 
+-- its ends reach to the forward at both ends of the exponential
+abbrev pub ForwardReachesEnds : Type 0
+ForwardReachesEnds = (P : ℕ) (pair : Pair) (e : Ends) → e.lo ≤ℤ e.hi →
+    let f = forward_interval P pair e in
+    let at_end = λ (y : ℤ). pos pair.strike *ℤ unit P +ℤ pos 5 *ℤ pair.d *ℤ y in
+    (f.lo ≤ℤ at_end e.lo) × (f.lo ≤ℤ at_end e.hi) × (at_end e.lo ≤ℤ f.hi) × (at_end e.hi ≤ℤ f.hi)
+
 -- the printed ends lie around every member of a forward's interval
 abbrev pub PrintedEndsLieAround : Type 0
 PrintedEndsLieAround = (P : ℕ) (f : Ends) (forward : Fraction) → IsMember P f forward →

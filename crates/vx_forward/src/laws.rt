@@ -1,10 +1,15 @@
 //! Laws of the forward and of the level. Each function does nothing: its clause is the law.
 
-ghost use Rattle.vx_forward.specs.Laws.{AnswerHoldsOfForwards, AnswerIsOne, ForwardIsEnclosed, LevelLiesBelowForward, PrintedEndsAreEqual, PrintedEndsAreNear, PrintedEndsLieAround};
+ghost use Rattle.vx_forward.specs.Laws.{AnswerHoldsOfForwards, AnswerIsOne, ForwardIsEnclosed, ForwardReachesEnds, LevelLiesBelowForward, PrintedEndsAreEqual, PrintedEndsAreNear, PrintedEndsLieAround};
 
 /// The forward at every exponential of an interval is in the forward's interval.
 pub fn forward_is_enclosed()
     ensures { ForwardIsEnclosed }
+{}
+
+/// The ends of the forward's interval reach to the forward at both ends of the exponential.
+pub fn forward_reaches_ends()
+    ensures { ForwardReachesEnds }
 {}
 
 /// The printed ends of a forward lie around every member of its interval.

@@ -10,11 +10,14 @@ mod laws;
 mod level;
 pub mod limits;
 mod pairs;
+#[cfg(test)]
+mod tests;
 
 pub use forwards::{forward, forward_ends};
 pub use laws::{
-    answer_holds_of_forwards, answer_is_one, forward_is_enclosed, level_lies_below_forward,
-    printed_ends_are_equal, printed_ends_are_near, printed_ends_lie_around,
+    answer_holds_of_forwards, answer_is_one, forward_is_enclosed, forward_reaches_ends,
+    level_lies_below_forward, printed_ends_are_equal, printed_ends_are_near,
+    printed_ends_lie_around,
 };
 pub use level::{K0Answer, find_k0};
 pub use pairs::{Pair, closest};
