@@ -33,6 +33,7 @@ pub fn forward<const P: u32>(pair: &Pair, e: &Iv<P>) -> Iv<P>
     ensures in_range { (pos 4 *ℤ e.now.hi) ≤ℤ (pos 5 *ℤ unit P) → IsForwardInRange P result }
     ensures interval { IsInterval P result }
 {
+    // Reading an end brings what every interval keeps into the proof: its scale, order and range.
     let low = e.lo();
     prove!(low >= 0);
     let spread = e.scale(five_times(pair.d));

@@ -20,27 +20,27 @@ fn price(half: u32) -> Price
     }
 }
 
-// Three rows in rising order. Of the first two the prices lie 10 points apart, of the third 20.
+// Three rows in rising order. The two prices of the first two lie 5 points apart, of the third 10.
 fn three_rows(low: u32, middle: u32, high: u32) -> [StrikeRow; 3]
     requires { (STRIKE_MIN ≤ low) × (low < middle) × (middle < high) × (high ≤ STRIKE_MAX) }
     ensures { AreLawfulRows result }
 {
-    let (ten, lower) = (price(6_000), price(5_000));
+    let (thirty, less) = (price(6_000), price(5_000));
     [
         StrikeRow {
             strike: low,
-            put: lower,
-            call: ten,
+            put: less,
+            call: thirty,
         },
         StrikeRow {
             strike: middle,
-            put: ten,
-            call: lower,
+            put: thirty,
+            call: less,
         },
         StrikeRow {
             strike: high,
             put: price(7_000),
-            call: lower,
+            call: less,
         },
     ]
 }
