@@ -14,7 +14,7 @@ use Rattle.vx_feed.specs.Standing.{before_opening, if_standing, is_opening, list
 use Rattle.vx_feed.specs.Listed.{declared_expiry, header_day, insert_strike, is_listed, listed_strike, strikes_of, with_strike}
 use Rattle.vx_feed.specs.Next.{NextQuote, NextRate, NextTrade, UnlistedHasNone, NextBeforeOpening, NextListed, NextDeclared, NextTradeDate, NextStrikes, quote_after, trade_after}
 
-or-false : (b : Bool) → (b || false) ≡ b
+pub or-false : (b : Bool) → (b || false) ≡ b
 or-false true = refl
 or-false false = refl
 
@@ -170,16 +170,16 @@ unlisted_has_none s events h = (
   ap (first_said (trade_of s)) (since_listed-none s (before_opening events) (unlisted-before s events h)),
 )
 
-insert_strike-below : (k j : ℕ) (js : List ℕ) → k < j → insert_strike k (j ∷ js) ≡ k ∷ j ∷ js
+pub insert_strike-below : (k j : ℕ) (js : List ℕ) → k < j → insert_strike k (j ∷ js) ≡ k ∷ j ∷ js
 insert_strike-below k j js h = let t : nat_lt k j ≡ true = grind (arith, nat_tests) in rw t refl
 
-insert_strike-at : (k j : ℕ) (js : List ℕ) → k ≡ j → insert_strike k (j ∷ js) ≡ j ∷ js
+pub insert_strike-at : (k j : ℕ) (js : List ℕ) → k ≡ j → insert_strike k (j ∷ js) ≡ j ∷ js
 insert_strike-at k j js h = let t : nat_lt k j ≡ false = grind (arith, nat_tests) in let u : (k == j) ≡ true = grind (arith, nat_tests) in rw (t, u) refl
 
-insert_strike-above : (k j : ℕ) (js : List ℕ) → j < k → insert_strike k (j ∷ js) ≡ j ∷ insert_strike k js
+pub insert_strike-above : (k j : ℕ) (js : List ℕ) → j < k → insert_strike k (j ∷ js) ≡ j ∷ insert_strike k js
 insert_strike-above k j js h = let t : nat_lt k j ≡ false = grind (arith, nat_tests) in let u : (k == j) ≡ false = grind (arith, nat_tests) in rw (t, u) refl
 
-three_ways : (a b : ℕ) → (a < b) ⊎ ((a ≡ b) ⊎ (b < a))
+pub three_ways : (a b : ℕ) → (a < b) ⊎ ((a ≡ b) ⊎ (b < a))
 three_ways a b = elim (cases_lt a b) [ inl below ↦ inl below | inr le ↦ elim (cases_lt b a) [ inl above ↦ inr (inr above) | inr ge ↦ inr (inl (omega arith)) ] ]
 
 insert_strike-comm_below : (a b : ℕ) → a < b → (ks : List ℕ) → insert_strike a (insert_strike b ks) ≡ insert_strike b (insert_strike a ks)

@@ -1,13 +1,15 @@
 //! Which event may follow the events so far.
 
-ghost use Rattle.std.specs.Prelude.{◌≡◌, [], ◌∷◌, ◌++◌, List, ℕ, length, IfOk, OnOk, OnErr, nat_lt, map};
-ghost use Rattle.std.specs.List.{list_any};
+ghost use Rattle.std.specs.Prelude.{◌≡◌, ◌<◌, false, [], ◌∷◌, ◌++◌, List, IfOk, OnOk, OnErr, find, option_map};
 ghost use Rattle.std.specs.Option.{option_map_or};
+ghost use Rattle.std.specs.List.{list_any};
+ghost use Rattle.std.specs.HashSet.{contains};
 ghost use Rattle.vx_feed.specs.declared.events.Event.{Event};
+ghost use Rattle.vx_feed.specs.declared.order.Order.{Order};
 ghost use Rattle.vx_feed.specs.Listed as spec;
 ghost use Rattle.vx_feed.specs.Order as order;
-ghost use Rattle.vx_feed.specs.Same.{is_same_expiry, is_same_series};
-ghost use Rattle.vx_feed.specs.Noted.{keeps};
+ghost use Rattle.vx_feed.specs.Same.{is_same_series};
+ghost use Rattle.vx_feed.specs.Noted.{CanTake, IsSameOrder, MayNote, StandsFor, Takes, is_new_strike, keeps, kept_strikes, with_one_more};
 
 use crate::events::Event;
 use crate::faults::FeedFault;
@@ -82,33 +84,66 @@ impl Event {
 }
 
 // Whether an expiry is among the declared ones.
-fn is_among(expiries: &[Declared], expiry: &Expiry) -> bool
-    ensures { result ≡ list_any (keeps expiry.now) expiries.now }
+fn is_among(expiries: &[Declared], expiry: Expiry) -> bool
+    ensures { result ≡ list_any (keeps expiry) expiries.now }
 {
-    expiries.iter().any(|declared| *expiry == declared.expiry)
+    expiries.iter().any(|declared| expiry == declared.expiry)
+}
+
+// What is kept of an expiry.
+fn find_kept(expiries: &[Declared], expiry: Expiry) -> Option<&Declared>
+    ensures { option_map (λ declared. declared.now) result ≡ find (keeps expiry) expiries.now }
+{
+    expiries.iter().find(|declared| expiry == declared.expiry)
 }
 
 // How many distinct strikes are listed for an expiry.
-fn strikes_kept(expiries: &[Declared], expiry: &Expiry) -> u32 {
-    expiries
-        .iter()
-        .find(|declared| *expiry == declared.expiry)
-        .map_or(0, |declared| declared.strikes)
+fn strikes_kept(expiries: &[Declared], expiry: Expiry) -> u32
+    ensures { result ≡ kept_strikes expiry expiries.now }
+{
+    match find_kept(expiries, expiry) {
+        Some(declared) => declared.strikes,
+        None => 0,
+    }
 }
 
 // One strike more for an expiry.
-fn add_strike(expiries: &mut [Declared], expiry: &Expiry) {
+fn add_strike(expiries: &mut [Declared], expiry: Expiry)
+    requires { kept_strikes expiry expiries.old < STRIKES_MAX }
+    ensures { expiries.new ≡ with_one_more expiry expiries.old }
+{
     for declared in expiries.iter_mut() {
-        if declared.expiry == *expiry {
-            declared.strikes = declared.strikes.saturating_add(1);
+        if expiry == declared.expiry {
+            declared.strikes += 1;
             return;
         }
     }
 }
 
+// The first fault whose cause holds, of causes with their faults.
+fn first_fault(causes: &[(bool, FeedFault)]) -> Option<FeedFault>
+    ensures { result ≡ order.first_fault causes.now }
+{
+    for (holds, fault) in causes {
+        if *holds {
+            return Some(*fault);
+        }
+    }
+    None
+}
+
+fn is_header(event: &Event) -> bool
+    ensures { result ≡ order.is_header event.now }
+{
+    matches!(event, Event::Header { .. })
+}
+
+// What the order keeps says each of these for every list of events for which it stands.
 impl Order {
     /// The order of no event.
-    pub fn new(alloc: Global) -> Result<Order, NoMemory> {
+    pub fn new(alloc: Global) -> Result<Order, NoMemory>
+        ensures { IfOk result (λ order. StandsFor order []) }
+    {
         Ok(Order {
             lines: 0,
             day: None,
@@ -120,39 +155,54 @@ impl Order {
         })
     }
 
-    fn is_declared(&self, expiry: &Expiry) -> bool {
+    fn is_declared(&self, expiry: Expiry) -> bool
+        ensures { (events : List Event) → StandsFor self.now events → result ≡ spec.is_declared expiry events }
+    {
         is_among(&self.expiries, expiry)
     }
 
-    fn is_listed(&self, symbol: &Symbol) -> bool {
+    fn is_listed(&self, symbol: &Symbol) -> bool
+        ensures kept { result ≡ contains is_same_series self.now.series symbol.now }
+        ensures listed { (events : List Event) → StandsFor self.now events → result ≡ spec.is_listed symbol.now events }
+    {
         self.series.contains(symbol)
     }
 
     // The first line is no header, or a later line is one.
-    fn is_misplaced(&self, event: &Event) -> bool {
-        let is_header = matches!(event, Event::Header { .. });
+    fn is_misplaced(&self, event: &Event) -> bool
+        ensures { (events : List Event) → StandsFor self.now events → result ≡ order.is_misplaced events event.now }
+    {
         if self.lines == 0 {
-            !is_header
+            !is_header(event)
         } else {
-            is_header
+            is_header(event)
         }
     }
 
     // The time is less than that of an earlier line.
-    fn is_time_back(&self, event: &Event) -> bool {
-        event.time().is_some_and(|time| time < self.latest)
+    fn is_time_back(&self, event: &Event) -> bool
+        ensures { (events : List Event) → StandsFor self.now events → result ≡ order.is_time_back events event.now }
+    {
+        match event.time() {
+            Some(time) => time < self.latest,
+            None => false,
+        }
     }
 
     // The expiry was declared before.
-    fn is_duplicate_expiry(&self, event: &Event) -> bool {
+    fn is_duplicate_expiry(&self, event: &Event) -> bool
+        ensures { (events : List Event) → StandsFor self.now events → result ≡ order.is_duplicate_expiry events event.now }
+    {
         match event {
-            Event::Expiry(expiry) => self.is_declared(expiry),
+            Event::Expiry(expiry) => self.is_declared(*expiry),
             _ => false,
         }
     }
 
     // The series was listed before.
-    fn is_duplicate_series(&self, event: &Event) -> bool {
+    fn is_duplicate_series(&self, event: &Event) -> bool
+        ensures { (events : List Event) → StandsFor self.now events → result ≡ order.is_duplicate_series events event.now }
+    {
         match event {
             Event::Series(symbol) => self.is_listed(symbol),
             _ => false,
@@ -160,109 +210,174 @@ impl Order {
     }
 
     // The expiry of a rate or of a listed series was not declared before.
-    fn is_undeclared(&self, event: &Event) -> bool {
+    fn is_undeclared(&self, event: &Event) -> bool
+        ensures { (events : List Event) → StandsFor self.now events → result ≡ order.is_undeclared events event.now }
+    {
         match event {
-            Event::Rate { expiry, .. } => !self.is_declared(expiry),
-            Event::Series(symbol) => !self.is_declared(&expiry_of(symbol)),
+            Event::Rate { expiry, .. } => !self.is_declared(*expiry),
+            Event::Series(symbol) => !self.is_declared(expiry_of(symbol)),
             _ => false,
         }
     }
 
-    // The series would give its expiry one distinct strike too many.
-    fn has_too_many_strikes(&self, symbol: &Symbol) -> bool {
-        strikes_kept(&self.expiries, &expiry_of(symbol)) as usize >= STRIKES_MAX
-            && !self.is_listed(symbol)
-            && !self.is_listed(&other_side(symbol))
+    // A series at a strike at which no series of its expiry was listed before.
+    fn is_new_strike(&self, symbol: &Symbol) -> bool
+        ensures { (events : List Event) → StandsFor self.now events → result ≡ is_new_strike events symbol.now }
+    {
+        !self.is_listed(symbol) && !self.is_listed(&other_side(symbol))
+    }
+
+    // The event declares one expiry too many.
+    fn has_too_many_expiries(&self, event: &Event) -> bool
+        ensures { (events : List Event) → StandsFor self.now events → result ≡ order.has_too_many_expiries events event.now }
+    {
+        match event {
+            Event::Expiry(_) => self.expiries.len() >= EXPIRIES_MAX,
+            _ => false,
+        }
+    }
+
+    // The event lists one distinct strike of an expiry too many.
+    fn has_too_many_strikes(&self, event: &Event) -> bool
+        ensures { (events : List Event) → StandsFor self.now events → result ≡ order.has_too_many_strikes events event.now }
+    {
+        match event {
+            Event::Series(symbol) => {
+                strikes_kept(&self.expiries, expiry_of(symbol)) as usize >= STRIKES_MAX
+                    && self.is_new_strike(symbol)
+            }
+            _ => false,
+        }
     }
 
     // One expiry, one distinct strike of an expiry, or one line more than a feed may have.
-    fn is_too_many(&self, event: &Event) -> bool {
-        let is_one_more = match event {
-            Event::Expiry(_) => self.expiries.len() >= EXPIRIES_MAX,
-            Event::Series(symbol) => self.has_too_many_strikes(symbol),
-            _ => false,
-        };
-        is_one_more || self.lines >= LINES_MAX
+    fn is_too_many(&self, event: &Event) -> bool
+        ensures { (events : List Event) → StandsFor self.now events → result ≡ order.is_too_many events event.now }
+    {
+        self.has_too_many_expiries(event)
+            || self.has_too_many_strikes(event)
+            || self.lines >= LINES_MAX
     }
 
     // The END line counts another number of lines between the header and it.
-    fn is_other_count(&self, event: &Event) -> bool {
+    fn is_other_count(&self, event: &Event) -> bool
+        ensures { (events : List Event) → StandsFor self.now events → result ≡ order.is_other_count events event.now }
+    {
         match event {
             Event::End { count } => *count != self.lines.saturating_sub(1),
             _ => false,
         }
     }
 
+    // Whether an expiry is 1 to 180 days after the trade date, where there is one.
+    fn is_in_days(&self, expiry: &Expiry) -> bool
+        ensures { result ≡ option_map_or (order.is_days_ahead expiry.now) self.now.day false }
+    {
+        match self.day {
+            Some(day) => is_days_ahead(expiry, day),
+            None => false,
+        }
+    }
+
     // An expiry that is not 1 to 180 days after the trade date.
-    fn is_out_of_days(&self, event: &Event) -> bool {
+    fn is_out_of_days(&self, event: &Event) -> bool
+        ensures { (events : List Event) → StandsFor self.now events → result ≡ order.is_out_of_days events event.now }
+    {
         match event {
-            Event::Expiry(expiry) => !self.day.is_some_and(|day| is_days_ahead(expiry, day)),
+            Event::Expiry(expiry) => !self.is_in_days(expiry),
             _ => false,
         }
     }
 
     // An opening after an opening.
-    fn is_second_opening(&self, event: &Event) -> bool {
-        matches!(event, Event::Opening { .. }) && self.opened
+    fn is_second_opening(&self, event: &Event) -> bool
+        ensures { (events : List Event) → StandsFor self.now events → result ≡ order.is_second_opening events event.now }
+    {
+        match event {
+            Event::Opening { .. } => self.opened,
+            _ => false,
+        }
     }
 
     // The first fault of an event after the events so far.
-    pub(crate) fn fault(&self, event: &Event) -> Option<FeedFault> {
-        if self.is_misplaced(event) {
-            Some(FeedFault::NotFirst)
-        } else if self.ended {
-            Some(FeedFault::AfterEnd)
-        } else if self.is_time_back(event) {
-            Some(FeedFault::TimeBack)
-        } else if self.is_duplicate_expiry(event) {
-            Some(FeedFault::DuplicateExpiry)
-        } else if self.is_duplicate_series(event) {
-            Some(FeedFault::DuplicateSeries)
-        } else if self.is_undeclared(event) {
-            Some(FeedFault::UndeclaredExpiry)
-        } else if self.is_too_many(event) {
-            Some(FeedFault::TooMany)
-        } else if self.is_other_count(event) {
-            Some(FeedFault::EndCount)
-        } else if self.is_out_of_days(event) {
-            Some(FeedFault::TimeRange)
-        } else if self.is_second_opening(event) {
-            Some(FeedFault::SecondOpening)
-        } else {
-            None
-        }
+    pub(crate) fn fault(&self, event: &Event) -> Option<FeedFault>
+        ensures { (events : List Event) → StandsFor self.now events → result ≡ order.order_fault events event.now }
+    {
+        let causes = [
+            (self.is_misplaced(event), FeedFault::NotFirst),
+            (self.ended, FeedFault::AfterEnd),
+            (self.is_time_back(event), FeedFault::TimeBack),
+            (self.is_duplicate_expiry(event), FeedFault::DuplicateExpiry),
+            (self.is_duplicate_series(event), FeedFault::DuplicateSeries),
+            (self.is_undeclared(event), FeedFault::UndeclaredExpiry),
+            (self.is_too_many(event), FeedFault::TooMany),
+            (self.is_other_count(event), FeedFault::EndCount),
+            (self.is_out_of_days(event), FeedFault::TimeRange),
+            (self.is_second_opening(event), FeedFault::SecondOpening),
+        ];
+        first_fault(&causes)
     }
 
-    // Takes up what a series listed after the events so far needs.
-    fn list(&mut self, symbol: &Symbol) -> Result<(), NoMemory> {
-        let is_new_strike = !self.is_listed(&other_side(symbol));
+    // Takes up the series that is listed, and its strike where that is new.
+    fn list(&mut self, symbol: &Symbol) -> Result<(), NoMemory>
+        requires { CanTake self.old (Event.Series symbol.now) }
+        ensures taken { OnOk result (Takes self.old (Event.Series symbol.now) self.new) }
+        ensures refused { OnErr result (IsSameOrder self.old self.new) }
+    {
+        let has_strike = self.is_listed(&other_side(symbol));
         self.series.insert(*symbol).map_err(|_| NoMemory)?;
-        if is_new_strike {
-            add_strike(&mut self.expiries, &expiry_of(symbol));
+        if has_strike {
+            return Ok(());
         }
+        add_strike(&mut self.expiries, expiry_of(symbol));
         Ok(())
     }
 
-    // Takes up what an expiry declared after the events so far needs.
-    fn declare(&mut self, expiry: Expiry) -> Result<(), NoMemory> {
+    // Takes up the expiry that is declared.
+    fn declare(&mut self, expiry: Expiry) -> Result<(), NoMemory>
+        ensures taken { OnOk result (Takes self.old (Event.Expiry expiry) self.new) }
+        ensures refused { OnErr result (IsSameOrder self.old self.new) }
+    {
         let declared = Declared { expiry, strikes: 0 };
-        self.expiries.push(declared).map_err(|_| NoMemory)
+        self.expiries.push(declared).map_err(|_| NoMemory)?;
+        Ok(())
     }
 
-    /// Notes an event that is lawful next. After a refusal nothing is noted.
-    pub fn note(&mut self, event: &Event) -> Result<(), NoMemory> {
+    // Takes up what the event says beside its time.
+    fn take(&mut self, event: &Event) -> Result<(), NoMemory>
+        requires { CanTake self.old event.now }
+        ensures taken { OnOk result (Takes self.old event.now self.new) }
+        ensures refused { OnErr result (IsSameOrder self.old self.new) }
+    {
         match event {
-            Event::Header { day } => self.day = Some(*day),
-            Event::Expiry(expiry) => self.declare(*expiry)?,
-            Event::Series(symbol) => self.list(symbol)?,
-            Event::Opening { .. } => self.opened = true,
-            Event::End { .. } => self.ended = true,
-            _ => {}
+            Event::Header { day } => {
+                self.day = Some(*day);
+                Ok(())
+            }
+            Event::Expiry(expiry) => self.declare(*expiry),
+            Event::Series(symbol) => self.list(symbol),
+            Event::Opening { .. } => {
+                self.opened = true;
+                Ok(())
+            }
+            Event::End { .. } => {
+                self.ended = true;
+                Ok(())
+            }
+            _ => Ok(()),
         }
-        if let Some(time) = event.time() {
-            self.latest = self.latest.max(time);
-        }
-        self.lines = self.lines.saturating_add(1);
+    }
+
+    /// Notes an event that is lawful next: the order then stands for the list with this event at its
+    /// end. Where memory is wanting nothing is noted, and it stands for the same list as before.
+    pub fn note(&mut self, event: &Event) -> Result<(), NoMemory>
+        requires { MayNote self.old event.now }
+        ensures noted { (events : List Event) → StandsFor self.old events → OnOk result (StandsFor self.new (events ++ event.now ∷ [])) }
+        ensures refused { (events : List Event) → StandsFor self.old events → OnErr result (StandsFor self.new events) }
+    {
+        self.take(event)?;
+        self.latest = self.latest.max(event.time().unwrap_or(0));
+        self.lines += 1;
         Ok(())
     }
 }

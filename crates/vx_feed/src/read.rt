@@ -1,7 +1,10 @@
 //! Reading the lines of a feed.
 
-ghost use Rattle.std.specs.Prelude.{◌≡◌, IfOk};
-ghost use Rattle.vx_feed.specs.Feed.{unsplit_fault};
+ghost use Rattle.std.specs.Prelude.{◌≡◌, ◌⊎◌, IfOk, List};
+ghost use Rattle.vx_feed.specs.declared.events.Event.{Event};
+ghost use Rattle.vx_feed.specs.Feed.{event_of_line, next_event, unsplit_fault};
+ghost use Rattle.vx_feed.specs.Noted.{StandsFor};
+ghost use Rattle.vx_feed.specs.Order.{IsLawfulNext};
 ghost use Rattle.vx_feed.specs.Ranges.{IsInRange};
 
 use crate::events::Event;
@@ -13,8 +16,11 @@ use vx_fields::{FieldTable, Fields, LineBlock, is_plain_line};
 
 /// The event of a line that was split into its fields, after the events noted, or the first fault.
 ///
-/// Takes no memory. For a line that can't be split ask [`line_fault`] first.
+/// An event that is answered is lawful next after the events noted. Takes no memory. For a line that
+/// can't be split ask [`line_fault`] first.
 pub fn event_of_fields(fields: &Fields<'_>, seen: &Order) -> Result<Event, FeedFault>
+    ensures value { (events : List Event) → StandsFor seen.now events → result ≡ next_event events fields.now }
+    ensures lawful { (events : List Event) → StandsFor seen.now events → IfOk result (IsLawfulNext events) }
     ensures in_range { IfOk result IsInRange }
 {
     let event = read_form(fields)?;
@@ -38,8 +44,11 @@ pub fn line_fault(line: &[u8]) -> Option<FeedFault>
     }
 }
 
-/// The event of a line, given without its LF, after the events noted, or the first fault.
+/// The event of a line, given without its LF, after the events noted, or the first fault. An event that
+/// is answered is lawful next after the events noted. `NoMemory` has no cause in the line.
 pub fn read_event(alloc: Global, line: &[u8], seen: &Order) -> Result<Event, FeedFault>
+    ensures value { (events : List Event) → StandsFor seen.now events → (result ≡ Err FeedFault.NoMemory) ⊎ (result ≡ event_of_line events line.now) }
+    ensures lawful { (events : List Event) → StandsFor seen.now events → IfOk result (IsLawfulNext events) }
     ensures in_range { IfOk result IsInRange }
 {
     if line.is_empty() {

@@ -1,0 +1,10 @@
+use Rattle.std.proofs.Common.{◌∙◌, refl, sym}
+use Rattle.std.specs.Result.{is_ok}
+use Rattle.std.proofs.lemmas.Bool.{cond-true}
+use Rattle.vx_feed.proofs.OrderLemmas.{takes_expiry}
+use Rattle.vx_feed.proofs.order.Order.declare.Goals as goal
+
+pub returns-clause-taken : goal.returns-clause-taken
+returns-clause-taken c =
+    takes_expiry c.args.self.now _ c.args.expiry refl refl refl refl refl refl
+    (c.push.ensures.items ∙ cond-true (is_ok c.push.result) _ _ (sym c.in_ok-map_err.ensures.variant))
