@@ -38,6 +38,10 @@ pub record StandsFor (order : Order) (events : List Event) : Type 0 where
   pub strikes : (x : Expiry) → kept_strikes x order.expiries.items ≡ length (strikes_of x events)
   pub series : (s : Symbol) → contains is_same_series order.series s ≡ is_listed s events
 
+-- there is a list of events for which the order stands
+abbrev pub StandsForSome : Order → Type 0
+StandsForSome order = (events : List Event) × StandsFor order events
+
 -- the event is lawful next after a list of events for which the order stands
 abbrev pub MayNote : Order → Event → Type 0
 MayNote order e = (events : List Event) × StandsFor order events × IsLawfulNext events e

@@ -1,3 +1,6 @@
+ghost use Rattle.std.specs.Prelude.{OnOk, IfOk};
+ghost use Rattle.vx_feed.specs.Noted.{StandsForSome};
+
 use crate::{Event, FeedFault, Order, read_event};
 use std::alloc::Global;
 use std::test::Fail;
@@ -127,25 +130,63 @@ const LAWFUL: [(usize, &str); 9] = [
     (1, "Q,08:30,SPX   141017C01900000,2.00,1.00"),
 ];
 
+// A feed that declares one expiry too many.
+const SEVENTEEN_EXPIRIES: [&str; 18] = [
+    "H,1,2014-09-17",
+    "E,SPX,2014-10-10",
+    "E,SPXW,2014-10-10",
+    "E,SPX,2014-10-11",
+    "E,SPXW,2014-10-11",
+    "E,SPX,2014-10-12",
+    "E,SPXW,2014-10-12",
+    "E,SPX,2014-10-13",
+    "E,SPXW,2014-10-13",
+    "E,SPX,2014-10-14",
+    "E,SPXW,2014-10-14",
+    "E,SPX,2014-10-15",
+    "E,SPXW,2014-10-15",
+    "E,SPX,2014-10-16",
+    "E,SPXW,2014-10-16",
+    "E,SPX,2014-10-17",
+    "E,SPXW,2014-10-17",
+    "E,SPX,2014-10-20",
+];
+
+// Reads a line and notes its event, or gives its fault.
+fn read_line(alloc: Global, line: &str, seen: &mut Order) -> Result<Option<FeedFault>, Fail>
+    requires { StandsForSome seen.old }
+    ensures { OnOk result (StandsForSome seen.new) }
+{
+    match read_event(alloc, line.as_bytes(), seen) {
+        Ok(event) => {
+            seen.note(&event)?;
+            Ok(None)
+        }
+        Err(fault) => Ok(Some(fault)),
+    }
+}
+
 // Reads the lines in turn, and gives the fault of the first bad one.
 fn first_fault(alloc: Global, lines: &[&str]) -> Result<Option<FeedFault>, Fail> {
     let mut seen = Order::new(alloc)?;
     for line in lines {
-        match read_event(alloc, line.as_bytes(), &seen) {
-            Ok(event) => seen.note(&event)?,
-            Err(fault) => return Ok(Some(fault)),
+        let fault = read_line(alloc, line, &mut seen)?;
+        if fault.is_some() {
+            return Ok(fault);
         }
     }
     Ok(None)
 }
 
-// The fault of a line after the first lines of the first sample feed.
-fn fault_after(alloc: Global, count: usize, line: &str) -> Result<Option<FeedFault>, Fail> {
+// The order after the first lines of the first sample feed.
+fn order_after(alloc: Global, count: usize) -> Result<Order, Fail>
+    ensures { IfOk result StandsForSome }
+{
     let mut seen = Order::new(alloc)?;
-    for before in FEED_A.iter().take(count) {
-        seen.note(&read_event(alloc, before.as_bytes(), &seen)?)?;
+    for line in FEED_A.iter().take(count) {
+        read_line(alloc, line, &mut seen)?;
     }
-    Ok(read_event(alloc, line.as_bytes(), &seen).err())
+    Ok(seen)
 }
 
 #[test]
@@ -159,7 +200,8 @@ fn sample_feeds_are_lawful(rt: HostRuntime) -> Result<(), Fail> {
 #[test]
 fn each_fault_comes_for_its_cause(rt: HostRuntime) -> Result<(), Fail> {
     for (count, line, fault) in FAULTS.iter() {
-        assert_eq!(rt; fault_after(rt.alloc(), *count, line)?, Some(*fault));
+        let mut seen = order_after(rt.alloc(), *count)?;
+        assert_eq!(rt; read_line(rt.alloc(), line, &mut seen)?, Some(*fault));
     }
     Ok(())
 }
@@ -167,7 +209,8 @@ fn each_fault_comes_for_its_cause(rt: HostRuntime) -> Result<(), Fail> {
 #[test]
 fn lines_at_the_limits_are_lawful(rt: HostRuntime) -> Result<(), Fail> {
     for (count, line) in LAWFUL.iter() {
-        assert_eq!(rt; fault_after(rt.alloc(), *count, line)?, None);
+        let mut seen = order_after(rt.alloc(), *count)?;
+        assert_eq!(rt; read_line(rt.alloc(), line, &mut seen)?, None);
     }
     Ok(())
 }
@@ -184,25 +227,17 @@ fn a_second_opening_is_refused(rt: HostRuntime) -> Result<(), Fail> {
 
 #[test]
 fn a_seventeenth_expiry_is_refused(rt: HostRuntime) -> Result<(), Fail> {
-    let mut seen = Order::new(rt.alloc())?;
-    seen.note(&read_event(rt.alloc(), b"H,1,2014-09-17", &seen)?)?;
-    for day in b'0'..b'8' {
-        for root in ["SPX", "SPXW"] {
-            let line = format!(in rt.alloc(); "E,{root},2014-10-1{}", day - b'0')?;
-            seen.note(&read_event(rt.alloc(), line.as_bytes(), &seen)?)?;
-        }
-    }
-    let answer = read_event(rt.alloc(), b"E,SPX,2014-10-20", &seen);
-    assert_eq!(rt; answer.err(), Some(FeedFault::TooMany));
+    assert_eq!(rt;
+        first_fault(rt.alloc(), &SEVENTEEN_EXPIRIES)?,
+        Some(FeedFault::TooMany)
+    );
+    assert_eq!(rt; first_fault(rt.alloc(), &SEVENTEEN_EXPIRIES[..17])?, None);
     Ok(())
 }
 
 #[test]
 fn a_rate_is_read_with_its_sign(rt: HostRuntime) -> Result<(), Fail> {
-    let mut seen = Order::new(rt.alloc())?;
-    for line in FEED_A.iter().take(2) {
-        seen.note(&read_event(rt.alloc(), line.as_bytes(), &seen)?)?;
-    }
+    let seen = order_after(rt.alloc(), 2)?;
     match read_event(rt.alloc(), b"R,SPX,2014-10-17,-0.0305", &seen)? {
         Event::Rate { rate, .. } => assert_eq!(rt; rate, -30_500),
         _ => assert!(rt; false),

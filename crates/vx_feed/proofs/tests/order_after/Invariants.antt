@@ -1,0 +1,5 @@
+use Rattle.vx_feed.specs.Noted.{StandsForSome}
+use Rattle.vx_feed.proofs.tests.order_after.Given as goal
+
+abbrev pub invariant-loop-line : goal.invariant-loop-line
+invariant-loop-line l = StandsForSome l.seen
