@@ -1,6 +1,7 @@
 -- The feed as a command reads it: blocks of lines are read ahead, and the lines taken one after another.
 use Rattle.std.specs.Prelude.{◌≡◌, ℕ, ◌<◌, length}
 use Rattle.vx_desk.specs.declared.device.Slot.TheVariants.{Feed}
+use Rattle.vx_feed.specs.Noted.{StandsForSome}
 use Rattle.vx_cli.specs.declared.ahead.LinesAhead.{LinesAhead}
 use Rattle.vx_cli.specs.declared.ahead.Rest.{Rest}
 use Rattle.vx_cli.specs.declared.ahead.Rest.TheVariants.{More, End, Bad}
@@ -23,6 +24,7 @@ pub record IsReadingAhead (ahead : LinesAhead) : Type 0 where
 abbrev pub HasNext : LinesAhead → Type 0
 HasNext ahead = ahead.rest ≡ More → ahead.taken < length ahead.table
 
--- the feed is read ahead
-abbrev pub IsReadingFeed : FeedReader → Type 0
-IsReadingFeed feed = IsReadingAhead feed.ahead
+-- the feed is read ahead, and the order stands for the events that were taken up
+pub record IsReadingFeed (feed : FeedReader) : Type 0 where
+  pub ahead : IsReadingAhead feed.ahead
+  pub order : StandsForSome feed.order

@@ -1,4 +1,7 @@
-ghost use Rattle.std.specs.Prelude.{◌≡◌, ◌≢◌, ◌<◌, length, IfErr, None, MatchBool};
+ghost use Rattle.std.specs.Prelude.{◌≡◌, ◌≢◌, ◌<◌, length, IfErr, IfOk, IfSome, List, None, MatchBool};
+ghost use Rattle.vx_feed.specs.declared.events.Event.{Event};
+ghost use Rattle.vx_feed.specs.Noted.{StandsFor};
+ghost use Rattle.vx_feed.specs.Order.{IsLawfulNext};
 ghost use Rattle.vx_cli.specs.Exits.{IsStop};
 ghost use Rattle.vx_cli.specs.Failures.{failed_calls};
 
@@ -51,6 +54,7 @@ fn event_of_line(
     number: u64,
 ) -> Result<Option<Event>, Exit>
     requires within { at < length table.now }
+    ensures lawful { (events : List Event) → StandsFor order.now events → IfOk result (λ found. IfSome found (IsLawfulNext events)) }
     ensures stops { IfErr result IsStop }
     ensures cause { IfErr result (λ exit. failed_calls exit ≡ None) }
 {
@@ -65,7 +69,10 @@ fn event_of_line(
 }
 
 impl LinesAhead {
-    ghost use Rattle.std.specs.Prelude.{◌≡◌, ◌+◌, ◌<◌, IsTrue, IfOk, IfErr, OnOk, Some, None, length};
+    ghost use Rattle.std.specs.Prelude.{◌≡◌, ◌+◌, ◌<◌, IsTrue, IfOk, IfErr, IfSome, List, OnOk, Some, None, length};
+    ghost use Rattle.vx_feed.specs.declared.events.Event.{Event};
+    ghost use Rattle.vx_feed.specs.Noted.{StandsFor};
+    ghost use Rattle.vx_feed.specs.Order.{IsLawfulNext};
     ghost use Rattle.vx_desk.specs.Told.{ChangesOnly};
     ghost use Rattle.vx_cli.specs.Exits.{IsStop};
     ghost use Rattle.vx_cli.specs.Failures.{KeepsSlots, StepFailures, failed_calls};
@@ -182,6 +189,7 @@ impl LinesAhead {
         requires reading { IsReadingAhead self.old }
         requires next { HasNext self.old }
         ensures reading { IsReadingAhead self.new }
+        ensures lawful { (events : List Event) → StandsFor order.now events → IfOk result (λ found. IfSome found (IsLawfulNext events)) }
         ensures stops { IfErr result IsStop }
         ensures cause { IfErr result (λ exit. failed_calls exit ≡ None) }
     {

@@ -25,7 +25,9 @@ pub(crate) struct FeedReader {
 }
 
 impl FeedReader {
-    ghost use Rattle.std.specs.Prelude.{◌≡◌, ◌+◌, ◌≤◌, IsTrue, IfOk, IfErr, OnOk, None};
+    ghost use Rattle.std.specs.Prelude.{◌≡◌, ◌+◌, ◌≤◌, [], ◌∷◌, ◌++◌, IsTrue, IfOk, IfErr, List, OnOk, None};
+    ghost use Rattle.vx_feed.specs.declared.events.Event.{Event};
+    ghost use Rattle.vx_feed.specs.Noted.{MayNote, StandsFor};
     ghost use Rattle.vx_cli.specs.Exits.{IsStop};
     ghost use Rattle.vx_cli.specs.Failures.{KeepsSlots, StepFailures, failed_calls};
     ghost use Rattle.vx_cli.specs.Reading.{IsReadingFeed};
@@ -52,6 +54,8 @@ impl FeedReader {
 
     /// Takes one more event, of the line with this number.
     fn push(&mut self, event: Event, number: u64) -> Result<(), NoMemory>
+        requires { MayNote self.old.order event }
+        ensures noted { (events : List Event) → StandsFor self.old.order events → OnOk result (StandsFor self.new.order (events ++ event ∷ [])) }
         ensures ahead { self.new.ahead ≡ self.old.ahead }
         ensures count { OnOk result (self.new.count ≡ number) }
     {

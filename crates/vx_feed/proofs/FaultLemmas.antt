@@ -1,5 +1,5 @@
 -- The faults of an event after a list of events, and what their absence says of an order that stands for the list.
-use Rattle.std.proofs.Common.{◌≡◌, ◌∙◌, sym, ap, refl, ◌<◌, ◌+◌, ℕ, zero, suc, Bool, true, false, cond, not, ◌&&◌, ◌||◌, nat_le, List, [], ◌∷◌, length, drop, get_or, Option, Some, None, arith}
+use Rattle.std.proofs.Common.{◌≡◌, ◌∙◌, sym, ap, refl, ◌<◌, ℕ, zero, suc, Bool, true, false, cond, not, ◌&&◌, ◌||◌, nat_le, List, [], ◌∷◌, length, drop, get_or, Option, Some, None, arith}
 use Rattle.std.specs.List.{list_any}
 use Rattle.std.specs.HashSet.{contains}
 use Rattle.std.proofs.lemmas.Bool.{leb-false, not-false, or_parts}
@@ -13,8 +13,8 @@ use Rattle.vx_feed.specs.declared.faults.FeedFault.TheVariants as fault
 use Rattle.vx_feed.specs.declared.limits.TheConstants.{LINES_MAX, STRIKES_MAX}
 use Rattle.vx_feed.specs.declared.order.Order.{Order}
 use Rattle.vx_feed.specs.Same.{is_same_expiry, is_same_series}
-use Rattle.vx_feed.specs.Listed.{declared_expiries, expiry_of, is_declared, is_listed, other_side, strikes_of, trade_date}
-use Rattle.vx_feed.specs.Order.{IsLawfulNext, first_fault, has_too_many_expiries, has_too_many_strikes, is_after_end, is_duplicate_expiry, is_duplicate_series, is_misplaced, is_other_count, is_out_of_days, is_second_opening, is_time_back, is_too_many, is_undeclared, order_causes, order_fault}
+use Rattle.vx_feed.specs.Listed.{expiry_of, is_declared, is_listed, other_side, strikes_of, trade_date}
+use Rattle.vx_feed.specs.Order.{first_fault, has_too_many_expiries, has_too_many_strikes, is_after_end, is_duplicate_expiry, is_duplicate_series, is_misplaced, is_other_count, is_out_of_days, is_second_opening, is_time_back, is_too_many, is_undeclared, order_causes, order_fault}
 use Rattle.vx_feed.specs.Noted.{CanList, CanTake, MayNote, StandsFor, is_new_strike, keeps, kept_strikes}
 use Rattle.vx_feed.proofs.StrikeLemmas.{has_strike, has-strike_of}
 use Rattle.vx_feed.proofs.KeptLemmas.{any-kept}

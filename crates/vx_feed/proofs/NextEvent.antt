@@ -18,7 +18,7 @@ pub or-false : (b : Bool) → (b || false) ≡ b
 or-false true = refl
 or-false false = refl
 
-option_or-none : {A : Type 0} → (o : Option A) → option_or o None ≡ o
+pub option_or-none : {A : Type 0} → (o : Option A) → option_or o None ≡ o
 option_or-none None = refl
 option_or-none (Some x) = refl
 

@@ -1,5 +1,5 @@
 -- The order and the list of events for which it stands, after one more event.
-use Rattle.std.proofs.Common.{◌≡◌, ◌∙◌, sym, ap, subst, refl, ◌<◌, ◌+◌, max, ℕ, Bool, true, false, cond, not, ◌&&◌, ◌||◌, nat_lt, List, [], ◌∷◌, ◌++◌, length, map, Option, Some, None, Result, Ok, Err, unwrap_or, add-zero, arith}
+use Rattle.std.proofs.Common.{◌≡◌, ◌∙◌, sym, ap, subst, refl, ◌+◌, max, ℕ, Bool, true, false, cond, not, ◌&&◌, ◌||◌, nat_lt, List, [], ◌∷◌, ◌++◌, length, map, Option, Some, None, Result, Ok, Err, unwrap_or, add-zero, arith}
 use Rattle.std.specs.List.{list_any}
 use Rattle.std.specs.Option.{option_map_or, option_or, option_to_list}
 use Rattle.std.specs.Result.{OnOk, is_ok}
@@ -14,13 +14,13 @@ use Rattle.vx_feed.specs.declared.order.Declared.{Declared}
 use Rattle.vx_feed.specs.declared.order.Order.{Order}
 use Rattle.vx_feed.specs.Same.{is_same_expiry, is_same_series}
 use Rattle.vx_feed.specs.Standing.{is_opening, lists_series}
-use Rattle.vx_feed.specs.Listed.{declared_expiries, declared_expiry, expiry_of, header_day, is_listed, other_side, strikes_of, with_strike}
+use Rattle.vx_feed.specs.Listed.{declared_expiry, expiry_of, header_day, is_listed, other_side, strikes_of, with_strike}
 use Rattle.vx_feed.specs.Order.{is_end, is_later_than, time_of}
 use Rattle.vx_feed.specs.Noted.{CanList, CanTake, IsSameOrder, StandsFor, Takes, kept_expiry, kept_strikes, strikes_more, with_one_more}
-use Rattle.vx_feed.proofs.NextEvent.{any-push, next_declared, next_listed, next_strikes, next_trade_date, or-false}
+use Rattle.vx_feed.proofs.NextEvent.{any-push, next_declared, next_listed, next_strikes, next_trade_date, option_or-none, or-false}
 use Rattle.vx_feed.proofs.SameLemmas.{expiry_from_same, series-sym}
 use Rattle.vx_feed.proofs.StrikeLemmas.{has_strike, has-strike_of, length-strike_more}
-use Rattle.vx_feed.proofs.KeptLemmas.{expiries-one_more, kept-one_more, kept-one_more_other, kept-push}
+use Rattle.vx_feed.proofs.KeptLemmas.{kept-one_more, kept-one_more_other, kept-push}
 
 -- ---- what stays the same
 
@@ -55,10 +55,6 @@ takes_nothing order e day end opening expiry strikes series = record {
   strikes = λ x. sym (ap (λ n. kept_strikes x order.expiries.items + n) (strikes x) ∙ add-zero (kept_strikes x order.expiries.items));
   series = λ s. sym (ap (λ b. contains is_same_series order.series s || b) (series s) ∙ or-false (contains is_same_series order.series s));
 }
-  where
-    option_or-none : {A : Type 0} → (o : Option A) → option_or o None ≡ o
-    option_or-none None = refl
-    option_or-none (Some x) = refl
 
 -- neither a header nor an expiry, a series, an opening or an END line
 abbrev pub SaysNothing : Event → Type 0
@@ -96,10 +92,6 @@ takes_expiry order after x lines latest day ended opened series expiries =
       series = λ s. ap (λ set. contains is_same_series set s) series ∙ sym (or-false (contains is_same_series order.series s));
     }
   where
-    option_or-none : {A : Type 0} → (o : Option A) → option_or o None ≡ o
-    option_or-none None = refl
-    option_or-none (Some x) = refl
-
     map-push : (ds : List Declared) (d : Declared) → map kept_expiry (ds ++ d ∷ []) ≡ map kept_expiry ds ++ d.expiry ∷ []
     map-push [] d = refl
     map-push (y ∷ ys) d = ap (λ l. y.expiry ∷ l) (map-push ys d)
@@ -152,10 +144,6 @@ takes_series order after s lines latest day ended opened expiries strikes series
   series = λ q. series q ∙ insert_or (is_same_series s q) (contains is_same_series order.series q)
       ∙ ap (λ b. contains is_same_series order.series q || b) (series-sym s q);
 }
-  where
-    option_or-none : {A : Type 0} → (o : Option A) → option_or o None ≡ o
-    option_or-none None = refl
-    option_or-none (Some x) = refl
 
 -- ---- the list with the event
 

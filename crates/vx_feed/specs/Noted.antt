@@ -7,7 +7,7 @@ use Rattle.vx_clock.specs.declared.terms.Expiry.{Expiry}
 use Rattle.vx_symbol.specs.declared.symbols.Symbol.{Symbol}
 use Rattle.vx_feed.specs.declared.events.Event.{Event}
 use Rattle.vx_feed.specs.declared.events.Event.TheVariants as event
-use Rattle.vx_feed.specs.declared.limits.TheConstants.{LINES_MAX, STRIKES_MAX}
+use Rattle.vx_feed.specs.declared.limits.TheConstants.{STRIKES_MAX}
 use Rattle.vx_feed.specs.declared.order.Declared.{Declared}
 use Rattle.vx_feed.specs.declared.order.Order.{Order}
 use Rattle.vx_feed.specs.Same.{is_same_expiry, is_same_series}
