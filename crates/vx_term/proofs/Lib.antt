@@ -2,3 +2,5 @@
 pub mod RunIsOne
 -- and so is the answer
 pub mod TermAnswerIsOne
+-- the square of the index
+pub mod Weights

@@ -1,6 +1,7 @@
 pub mod Exponential
 pub mod Variance
 pub mod Index
+pub mod Ranges
 pub mod Runs
 pub mod Answer
 pub mod Laws

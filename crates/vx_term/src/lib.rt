@@ -5,7 +5,10 @@
 #![tactic(auto)]
 
 mod answer;
+mod index;
 mod laws;
+pub mod limits;
 
 pub use answer::{TermAnswer, TermRefusal, TermRun};
+pub use index::{interpolate, single};
 pub use laws::term_answer_is_one;

@@ -1,0 +1,30 @@
+-- The ranges of variances and of squares of the index, in units of 2^-P. This project's own.
+use Rattle.std.specs.Prelude.{ℕ, ◌+◌, ◌*◌, ◌-◌, ◌≤◌, ℤ, pos, neg_ℤ, nat_abs, ◌-ℤ◌, ◌*ℤ◌, ◌≤ℤ◌}
+use Rattle.vx_clock.specs.declared.limits.TheConstants.{MINUTES_MIN, MINUTES_MAX, FIGURE_DAYS_MIN, FIGURE_DAYS_MAX}
+use Rattle.vx_interval.specs.Ends.{Ends, unit}
+use Rattle.vx_term.specs.declared.limits.TheConstants.{VARIANCE_MAX, SQUARE_MAX}
+
+-- both ends are within so many units in absolute value
+pub record IsWithin (limit : ℤ) (x : Ends) : Type 0 where
+  pub low : neg_ℤ limit ≤ℤ x.lo
+  pub high : x.hi ≤ℤ limit
+
+-- a variance times its term's time is within 6
+abbrev pub IsVarianceInRange : ℕ → Ends → Type 0
+IsVarianceInRange P w = IsWithin (pos VARIANCE_MAX *ℤ unit P) w
+
+-- the square of the index over 100 is within 1024
+abbrev pub IsSquareInRange : ℕ → Ends → Type 0
+IsSquareInRange P x = IsWithin (pos SQUARE_MAX *ℤ unit P) x
+
+-- minutes to a settlement, from 1 to 262,800
+abbrev pub AreMinutesInRange : ℕ → Type 0
+AreMinutesInRange minutes = (MINUTES_MIN ≤ minutes) × (minutes ≤ MINUTES_MAX)
+
+-- the days ahead of a figure, from 7 to 120
+abbrev pub AreDaysInRange : ℕ → Type 0
+AreDaysInRange days = (FIGURE_DAYS_MIN ≤ days) × (days ≤ FIGURE_DAYS_MAX)
+
+-- the weights that take two terms to a time ahead, in absolute value, are together at most three times the terms' distance
+abbrev pub AreWeightsInRange : ℕ → ℕ → ℕ → Type 0
+AreWeightsInRange target n1 n2 = nat_abs (pos n2 -ℤ pos target) + nat_abs (pos target -ℤ pos n1) ≤ 3 * (n2 - n1)
