@@ -6,3 +6,6 @@ pub mod Roots
 pub mod Steps
 pub mod Values
 pub mod Signed
+-- roots and decisions are one
+pub mod RootsAreOne
+pub mod DecisionIsOne

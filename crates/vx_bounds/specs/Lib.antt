@@ -1,3 +1,4 @@
 pub mod Exponential
 pub mod Root
 pub mod Cents
+pub mod Laws

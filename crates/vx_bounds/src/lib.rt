@@ -6,10 +6,12 @@
 
 mod cents;
 mod exponential;
+mod laws;
 mod root;
 
 pub use cents::{Decision, decide, round_cents};
 pub use exponential::{ExpRun, exp_bounds, exp_signed};
+pub use laws::{decision_is_one, roots_are_one, roots_are_ordered};
 pub use root::root_ends;
 
 #[cfg(test)]

@@ -4,3 +4,5 @@ pub mod RunIsOne
 pub mod TermAnswerIsOne
 -- the square of the index
 pub mod Weights
+-- ends are in order
+pub mod Ordered

@@ -11,4 +11,4 @@ pub mod limits;
 
 pub use answer::{TermAnswer, TermRefusal, TermRun};
 pub use index::{interpolate, single};
-pub use laws::term_answer_is_one;
+pub use laws::{square_is_ordered, term_answer_is_one, variance_is_ordered};
