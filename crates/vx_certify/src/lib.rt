@@ -1,4 +1,9 @@
 //! What a certificate states of a term's run.
 //!
-//! Today this crate has the definitions; the calls come with the calculator.
+//! Today this crate has the definitions, and that the index's ends decide one figure; the calls come with
+//! the calculator.
 #![tactic(auto)]
+
+mod laws;
+
+pub use laws::index_decision_is_one;

@@ -1,2 +1,5 @@
+-- the rows of a feed rise
+pub mod RisingRows
+-- tests and levels
 pub mod FailingLemmas
 pub mod LevelLemmas

@@ -2,11 +2,14 @@
 use Rattle.std.specs.Prelude.{◌≡◌, ℕ, List}
 use Rattle.vx_clock.specs.declared.terms.Expiry.{Expiry}
 use Rattle.vx_feed.specs.declared.events.Event.{Event}
+use Rattle.vx_feed.specs.Listed.{listed_rows}
+use Rattle.vx_feed.specs.Opening.{opening_rows}
 use Rattle.vx_feed.specs.Order.{AreLawful}
 use Rattle.vx_cert.specs.declared.certificate.Pair.{Pair as CertPair}
 use Rattle.vx_cert.specs.declared.certificate.CertFigure.{CertFigure}
 use Rattle.vx_cert.specs.declared.certificate.CertBody.TheVariants.{K0}
 use Rattle.vx_cert.specs.declared.certificate.Certificate.{Certificate}
+use Rattle.vx_formula.specs.Level.{StrikesRise}
 use Rattle.vx_formula.specs.Undecided.{Straddles}
 use Rattle.vx_claims.specs.TermTests.{Test}
 use Rattle.vx_claims.specs.FigureTests.{EnclosesIndex}
@@ -28,3 +31,7 @@ AcceptedHasNoFailingTest = (events : List Event) (c : Certificate) (test : Test)
 -- no boundary lies between the printed ends of an accepted figure
 abbrev pub StatedEndsAreDecided : Type 0
 StatedEndsAreDecided = (P : ℕ) (figure : CertFigure) → EnclosesIndex P figure → Straddles figure.lo figure.hi → ⊥
+
+-- the rows that a feed shows rise in strike, at any line and at the opening
+abbrev pub ListedRowsRise : Type 0
+ListedRowsRise = (x : Expiry) (events : List Event) → StrikesRise (listed_rows x events) × StrikesRise (opening_rows x events)

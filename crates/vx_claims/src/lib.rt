@@ -9,6 +9,6 @@ mod laws;
 pub mod limits;
 
 pub use laws::{
-    accepted_has_no_failing_test, accepted_level_means, failing_test_is_one,
+    accepted_has_no_failing_test, accepted_level_means, failing_test_is_one, listed_rows_rise,
     stated_ends_are_decided,
 };
