@@ -12,11 +12,9 @@ use Rattle.vx_term.specs.Index.{interpolated_ends}
 use Rattle.vx_term.specs.declared.answer.TermRun.{TermRun}
 use Rattle.vx_certify.specs.Certified.{AreIndexEnds, certified_term, certified_figure}
 use Rattle.vx_replay.specs.declared.answer.TickAnswer.{TickAnswer}
-use Rattle.vx_replay.specs.declared.answer.TickAnswer.TheVariants.{Published, UndecidedCents, UndecidedForward, Refused}
-use Rattle.vx_replay.specs.declared.answer.Reason.{Reason}
-use Rattle.vx_replay.specs.declared.answer.Reason.TheVariants.{NoTerm, Term, NegativeVariance}
-use Rattle.vx_replay.specs.declared.answer.Which.{Which}
-use Rattle.vx_replay.specs.declared.answer.Which.TheVariants.{Near, Next, Both}
+use Rattle.vx_replay.specs.declared.answer.TickAnswer.TheVariants.{Published, UndecidedCents, Refused}
+use Rattle.vx_replay.specs.declared.answer.Reason.TheVariants.{NegativeVariance}
+use Rattle.vx_replay.specs.declared.answer.Which.TheVariants.{Both}
 
 -- the square of the index for so many days ahead
 abbrev pub square_of_runs : ℕ → TermRun SCALE → TermRun SCALE → Ends

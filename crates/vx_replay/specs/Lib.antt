@@ -1,3 +1,4 @@
 pub mod Figures
 pub mod Joined
 pub mod Ticks
+pub mod Laws
