@@ -13,3 +13,6 @@ mod walk;
 pub use fault::StripRefusal;
 pub use selection::select;
 pub use strip::{Strip, StripRow, StripRows};
+
+#[cfg(test)]
+mod tests;

@@ -58,6 +58,14 @@ impl StripRows {
         self.list.push(item).map_err(|_| NoMemory)
     }
 
+    /// A copy of the list.
+    fn copied(&self, alloc: Global) -> Result<StripRows, NoMemory>
+        ensures { IfOk result (λ rows. rows ≡ self.now) }
+    {
+        let list = Vec::from_slice(alloc, self.list.as_slice()).map_err(|_| NoMemory)?;
+        Ok(StripRows { list })
+    }
+
     /// The rows in order.
     pub fn items(&self) -> &[StripRow]
         ensures { result.now ≡ self.now }
@@ -70,4 +78,15 @@ impl StripRows {
 #[derive(Debug, Drop)]
 pub struct Strip {
     pub rows: StripRows,
+}
+
+impl Strip {
+    /// A copy of the strip.
+    pub fn copied(&self, alloc: Global) -> Result<Strip, NoMemory>
+        ensures { IfOk result (λ strip. strip ≡ self.now) }
+    {
+        Ok(Strip {
+            rows: self.rows.copied(alloc)?,
+        })
+    }
 }

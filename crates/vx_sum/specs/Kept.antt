@@ -1,15 +1,11 @@
--- What a kept strip holds. This project's own.
+-- What a kept strip holds: the strip of the last successful refresh, and its sum. This project's own.
 use Rattle.std.specs.Prelude.{◌≡◌, ℕ, List, [], Option, Some, None}
 use Rattle.vx_formula.specs.Strip.{StripEntry}
 use Rattle.vx_strip.specs.declared.strip.Strip.{Strip}
 use Rattle.vx_strip.specs.Entries.{entries_of}
+use Rattle.vx_sum.specs.declared.kept.Kept.{Kept}
 use Rattle.vx_sum.specs.declared.sum.StripSum.{StripSum}
 use Rattle.vx_sum.specs.Sums.{IsSumOf}
-
--- the strip of the last successful refresh, and its sum
-pub record Kept (P : ℕ) : Type 0 where
-  pub strip : Strip
-  pub sum : StripSum P
 
 -- the entries that a refresh compares with: none before the first one
 abbrev pub kept_entries : {P : ℕ} → Option (Kept P) → List StripEntry

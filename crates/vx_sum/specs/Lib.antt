@@ -1,5 +1,6 @@
 pub mod Sums
 pub mod Totals
 -- sums that are kept, and which of their rows are used again
+pub mod Held
 pub mod Kept
 pub mod Matching

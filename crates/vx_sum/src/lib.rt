@@ -5,11 +5,16 @@
 
 mod divide;
 mod fault;
+mod kept;
 mod matching;
 pub mod sum;
 mod summing;
 mod totals;
 
 pub use fault::SumRefusal;
+pub use kept::KeptStrip;
 pub use sum::{StripSum, SumRow, SumRows};
 pub use summing::sum_strip;
+
+#[cfg(test)]
+mod tests;

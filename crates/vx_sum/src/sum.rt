@@ -57,6 +57,14 @@ impl SumRows {
         self.list.push(item).map_err(|_| NoMemory)
     }
 
+    /// A copy of the list.
+    fn copied(&self, alloc: Global) -> Result<SumRows, NoMemory>
+        ensures { IfOk result (λ rows. rows ≡ self.now) }
+    {
+        let list = Vec::from_slice(alloc, self.list.as_slice()).map_err(|_| NoMemory)?;
+        Ok(SumRows { list })
+    }
+
     /// The rows in order.
     pub fn items(&self) -> &[SumRow]
         ensures { result.now ≡ self.now }
@@ -71,4 +79,16 @@ pub struct StripSum<const P: u32> {
     pub rows: SumRows,
     /// From the sum of all low ends to the sum of all high ends.
     pub total: Iv<P>,
+}
+
+impl<const P: u32> StripSum<P> {
+    /// A copy of the sum.
+    pub fn copied(&self, alloc: Global) -> Result<StripSum<P>, NoMemory>
+        ensures { IfOk result (λ sum. sum ≡ self.now) }
+    {
+        Ok(StripSum {
+            rows: self.rows.copied(alloc)?,
+            total: self.total,
+        })
+    }
 }
