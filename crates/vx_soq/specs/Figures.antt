@@ -13,7 +13,6 @@ use Rattle.vx_term.specs.declared.answer.TermRun.{TermRun}
 use Rattle.vx_certify.specs.Certified.{AreIndexEnds, certified_term, certified_figure}
 use Rattle.vx_soq.specs.declared.answer.OpeningAnswer.{OpeningAnswer}
 use Rattle.vx_soq.specs.declared.answer.OpeningAnswer.TheVariants.{Published, Refused, UndecidedForward, UndecidedCents}
-use Rattle.vx_soq.specs.declared.answer.SoqReason.{SoqReason}
 use Rattle.vx_soq.specs.declared.answer.SoqReason.TheVariants.{Term, NegativeVariance}
 
 -- the certificate of the figure of a run, for the opening at a line

@@ -1,11 +1,10 @@
 -- The answer to the opening. It depends on the events alone. This project's own; which prices count at the opening, the feed's
 -- definitions say.
-use Rattle.std.specs.Prelude.{◌≡◌, ℕ, false, List, Some, None}
+use Rattle.std.specs.Prelude.{◌≡◌, ℕ, List, Some, None}
 use Rattle.vx_clock.specs.declared.days.DayNo.{DayNo}
 use Rattle.vx_feed.specs.declared.events.Event.{Event}
 use Rattle.vx_feed.specs.Listed.{trade_date}
 use Rattle.vx_feed.specs.Opening.{opening_time, opening_line}
-use Rattle.vx_formula.specs.Refusal.{OpeningFacts}
 use Rattle.vx_formula.specs.Term.{TermFacts}
 use Rattle.vx_claims.specs.declared.limits.TheConstants.{SCALE}
 use Rattle.vx_claims.specs.Seen.{opening_expiry, opening_term_of}

@@ -1,0 +1,3 @@
+-- the opening's answer is one
+pub mod FigureIsOne
+pub mod OpeningAnswerIsOne
