@@ -1,3 +1,10 @@
+pub mod Rising
+pub mod TableSeries
+pub mod TableLists
+pub mod Strikes
 pub mod Decisions
 pub mod Verdicts
 pub mod Pushes
+pub mod NextSeries
+pub mod NextTables
+pub mod NextBook

@@ -1,5 +1,5 @@
 -- The book of one event more.
-use Rattle.std.proofs.Common.{◌≡◌, ℕ, ◌+◌, ◌<◌, Bool, true, false, cond, not, ◌||◌, nat_le, List, [], ◌∷◌, ◌++◌, length, Option, Some, None, option_to_list, refl, sym, ◌∙◌, ap, subst, leb-false, arith, length-append}
+use Rattle.std.proofs.Common.{◌≡◌, ◌+◌, ◌<◌, Bool, true, false, cond, ◌||◌, nat_le, List, [], ◌∷◌, ◌++◌, length, Option, Some, None, option_to_list, refl, sym, ◌∙◌, ap, leb-false, length-append}
 use Rattle.std.specs.List.{AllByRecursion}
 use Rattle.std.specs.Option.{option_or}
 use Rattle.vx_feed.specs.declared.events.Event.{Event}
@@ -7,9 +7,9 @@ use Rattle.vx_feed.specs.declared.events.Event.TheVariants as event
 use Rattle.vx_feed.specs.declared.faults.FeedFault.{FeedFault}
 use Rattle.vx_feed.specs.declared.limits.TheConstants.{LINES_MAX}
 use Rattle.vx_feed.specs.Listed.{trade_date, header_day, declared_expiries, declared_expiry}
-use Rattle.vx_feed.specs.Order.{IsLawfulNext, first_fault, order_causes, is_empty, is_header, is_misplaced, has_too_many_expiries, has_too_many_strikes}
+use Rattle.vx_feed.specs.Order.{IsLawfulNext, first_fault, order_causes, is_header, is_misplaced, has_too_many_expiries, has_too_many_strikes, is_undeclared, is_duplicate_series}
 use Rattle.vx_feed.proofs.NextEvent.{next_trade_date, next_declared}
-use Rattle.vx_check.specs.Agrees.{last_event}
+use Rattle.vx_check.specs.StandsFor.{last_event}
 
 -- ---- what a lawful event says
 
@@ -39,6 +39,14 @@ first_is_empty (y ∷ ys) e t h = absurd (cc (sym t ∙ h))
 -- a header comes first alone
 pub header_is_first : (events : List Event) (e : Event) → is_header e ≡ true → IsLawfulNext events e → events ≡ []
 header_is_first events e t h = first_is_empty events e t (no_cause (order_causes events e) h.in_order).0
+
+-- a rate or a series is of a declared expiry
+pub not_undeclared : (events : List Event) (e : Event) → IsLawfulNext events e → is_undeclared events e ≡ false
+not_undeclared events e h = (no_cause (order_causes events e) h.in_order).1.1.1.1.1.0
+
+-- no series is listed twice
+pub not_duplicate : (events : List Event) (e : Event) → IsLawfulNext events e → is_duplicate_series events e ≡ false
+not_duplicate events e h = (no_cause (order_causes events e) h.in_order).1.1.1.1.0
 
 -- ---- the parts after one event more
 

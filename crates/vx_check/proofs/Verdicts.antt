@@ -1,13 +1,11 @@
 -- The first failing test of a level certificate.
-use Rattle.std.proofs.Common.{◌≡◌, ℕ, ◌<◌, Bool, true, false, not, ◌==◌, pos, Some, Decides, IsTrue, refl, if◌then◌else◌, arith}
+use Rattle.std.proofs.Common.{ℕ, ◌<◌, Bool, true, false, not, ◌==◌, pos, Decides, refl, if◌then◌else◌, arith}
 use Rattle.std.proofs.lemmas.Bool.Decides.{not_from_Decides, Decides-and, Decides-eqb}
 use Rattle.vx_clock.specs.declared.terms.Expiry.{Expiry}
 use Rattle.vx_cert.specs.declared.certificate.Pair.{Pair}
-use Rattle.vx_formula.specs.Pair.{IsClosestPair}
-use Rattle.vx_claims.specs.TermTests.{Test, A1, A2, A3, A4, A5, A6, A7, A8, A9, A10, A11, A12, A13, A14, A15, A16, test_number, stated_pair, IsLevelOfEnds}
-use Rattle.vx_claims.specs.Accepts.{scale_of, zero_rate_forward}
+use Rattle.vx_claims.specs.TermTests.{Test, A1, A2, A3, A4, A5, A6, A7, A8, A9, A10, A11, A12, A13, A14, A15, A16, test_number}
+use Rattle.vx_claims.specs.Accepts.{scale_of}
 use Rattle.vx_check.specs.declared.book.PlainBook.{PlainBook}
-use Rattle.vx_check.specs.declared.check.Verdict.{Verdict}
 use Rattle.vx_check.specs.declared.check.Verdict.TheVariants.{Yes, No}
 use Rattle.vx_check.specs.Kept.{is_kept, kept_rate, kept_rows}
 use Rattle.vx_check.specs.LevelTests as tests

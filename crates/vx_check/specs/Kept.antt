@@ -6,6 +6,7 @@ use Rattle.vx_clock.specs.declared.terms.Expiry.{Expiry}
 use Rattle.vx_symbol.specs.declared.rows.StrikeRow.{StrikeRow}
 use Rattle.vx_feed.specs.Same.{is_same_expiry}
 use Rattle.vx_check.specs.declared.book.PlainBook.{PlainBook}
+use Rattle.vx_check.specs.declared.table.Half.{Half}
 use Rattle.vx_check.specs.declared.table.Table.{Table}
 
 -- the expiry is among the declared ones
@@ -26,3 +27,7 @@ kept_rate x book = option_and_then (λ (table : Table). table.rate) (kept_table 
 -- its listed strikes with their prices; none where the expiry is not declared
 abbrev pub kept_rows : Expiry → PlainBook → List StrikeRow
 kept_rows x book = option_map_or (λ (table : Table). table.rows.items) (kept_table x book) []
+
+-- its strikes of which one side is listed
+abbrev pub kept_halves : Expiry → PlainBook → List Half
+kept_halves x book = option_map_or (λ (table : Table). table.halves.items) (kept_table x book) []

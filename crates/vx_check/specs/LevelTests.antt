@@ -1,5 +1,5 @@
 -- The tests of a level certificate as yes or no, in the form in which they are computed. This project's own.
-use Rattle.std.specs.Prelude.{ℕ, ◌*◌, ◌&&◌, ◌||◌, ◌==◌, false, not, nat_lt, nat_le, Bool, ℤ, pos, ◌+ℤ◌, ◌*ℤ◌, nat_abs, int_lt, int_le, List, Option, Some, if◌then◌else◌}
+use Rattle.std.specs.Prelude.{ℕ, ◌&&◌, ◌||◌, ◌==◌, false, not, nat_lt, nat_le, Bool, ℤ, pos, ◌+ℤ◌, ◌*ℤ◌, nat_abs, int_lt, int_le, List, if◌then◌else◌}
 use Rattle.std.specs.List.{list_any, list_all}
 use Rattle.std.specs.Option.{option_map_or}
 use Rattle.std.specs.Ordering.{int_eq}

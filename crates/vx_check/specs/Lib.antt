@@ -1,4 +1,7 @@
+pub mod Rising
 pub mod Kept
+pub mod Tables
+pub mod NextRows
 pub mod LevelTests
 pub mod Answers
-pub mod Agrees
+pub mod StandsFor

@@ -1,7 +1,10 @@
-ghost use Rattle.std.specs.Prelude.{◌≡◌, [], ◌∷◌, ◌++◌, List, IfOk, OnOk, OnErr, option_map, find};
+ghost use Rattle.std.specs.Prelude.{◌≡◌, ◌<◌, [], ◌∷◌, ◌++◌, List, length, None, IfOk, IfSome, OnOk, OnErr, MatchOption, option_map, find};
+ghost use Rattle.std.specs.List.{position};
 ghost use Rattle.vx_feed.specs.declared.events.Event.{Event};
+ghost use Rattle.vx_feed.specs.Listed.{expiry_of};
 ghost use Rattle.vx_feed.specs.Order.{IsLawfulNext};
-ghost use Rattle.vx_check.specs.Agrees.{AgreesOnDates, TakesDates, SameDates, tick_minute};
+ghost use Rattle.vx_check.specs.StandsFor.{StandsFor, Takes, IsSameBook, tick_minute};
+ghost use Rattle.vx_check.specs.Tables.{IsFirstAt, ListsInTable, SetsRate, QuotesInTable, ChangesTable, SameTables};
 ghost use Rattle.vx_check.specs.Kept.{is_table_of, kept_rate, kept_rows};
 
 use crate::table;
@@ -29,7 +32,7 @@ pub struct PlainBook {
 impl PlainBook {
     /// The book of no event.
     pub fn new(alloc: Global) -> Result<PlainBook, NoMemory>
-        ensures { IfOk result (λ book. AgreesOnDates book []) }
+        ensures { IfOk result (λ book. StandsFor book []) }
     {
         Ok(PlainBook {
             lines: 0,
@@ -41,10 +44,10 @@ impl PlainBook {
         })
     }
 
-    /// Takes the next event. After a refusal the lines, the day, the tick and the expiries are as before.
+    /// Takes the next event. After a refusal the book stands for the events that it stood for before.
     pub fn push(&mut self, e: Event) -> Result<(), NoMemory>
-        ensures taken { (events : List Event) → AgreesOnDates self.old events → IsLawfulNext events e → OnOk result (AgreesOnDates self.new (events ++ e ∷ [])) }
-        ensures refused { OnErr result (SameDates self.old self.new) }
+        ensures taken { (events : List Event) → StandsFor self.old events → IsLawfulNext events e → OnOk result (StandsFor self.new (events ++ e ∷ [])) }
+        ensures refused { (events : List Event) → StandsFor self.old events → OnErr result (StandsFor self.new events) }
     {
         self.take(e)?;
         self.tick = tick_minute(e);
@@ -54,8 +57,8 @@ impl PlainBook {
 
     /// Takes what an event says of the trade date, the expiries and their series.
     fn take(&mut self, e: Event) -> Result<(), NoMemory>
-        ensures taken { OnOk result (TakesDates self.old e self.new) }
-        ensures refused { OnErr result (SameDates self.old self.new) }
+        ensures taken { OnOk result (Takes self.old e self.new) }
+        ensures refused { OnErr result (IsSameBook self.old self.new) }
     {
         match e {
             Event::Header { day } => {
@@ -130,8 +133,8 @@ impl PlainBook {
     }
 
     fn declare(&mut self, expiry: Expiry) -> Result<(), NoMemory>
-        ensures taken { OnOk result (TakesDates self.old (Event.Expiry expiry) self.new) }
-        ensures refused { OnErr result (SameDates self.old self.new) }
+        ensures taken { OnOk result (Takes self.old (Event.Expiry expiry) self.new) }
+        ensures refused { OnErr result (IsSameBook self.old self.new) }
     {
         self.tables
             .push(Table::new(self.alloc, expiry))
@@ -154,31 +157,43 @@ fn tick_minute(e: Event) -> Option<u16>
     }
 }
 
-/// Where the table of an expiry stands.
-fn place_of(tables: &[Table], expiry: Expiry) -> Option<usize> {
+/// Where the table of an expiry stands, if it has one.
+fn place_of(tables: &[Table], expiry: Expiry) -> Option<usize>
+    ensures within { IfSome result (λ place. place < length tables.now) }
+    ensures first { MatchOption result (find (is_table_of expiry) tables.now ≡ None) (λ place. IsFirstAt (is_table_of expiry) place tables.now) }
+{
+    position_of(tables, expiry)
+}
+
+fn position_of(tables: &[Table], expiry: Expiry) -> Option<usize>
+    ensures { result ≡ position (is_table_of expiry) tables.now }
+{
     tables.iter().position(|table| expiry == table.expiry)
 }
 
-fn list(tables: &mut [Table], symbol: &Symbol) -> Result<(), NoMemory> {
+fn list(tables: &mut [Table], symbol: &Symbol) -> Result<(), NoMemory>
+    ensures listed { OnOk result (ChangesTable (expiry_of symbol.now) (ListsInTable symbol.now.side symbol.now.strike) tables.old tables.new) }
+    ensures refused { OnErr result (SameTables tables.old tables.new) }
+{
     match place_of(tables, expiry_of(symbol)) {
-        Some(place) if place < tables.len() => tables[place].list(symbol.side, symbol.strike),
-        _ => Ok(()),
+        Some(place) => tables[place].list(symbol.side, symbol.strike),
+        None => Ok(()),
     }
 }
 
-fn set_rate(tables: &mut [Table], expiry: Expiry, rate: i32) {
+fn set_rate(tables: &mut [Table], expiry: Expiry, rate: i32)
+    ensures { ChangesTable expiry (SetsRate rate) tables.old tables.new }
+{
     if let Some(place) = place_of(tables, expiry) {
-        if place < tables.len() {
-            tables[place].rate = Some(rate);
-        }
+        tables[place].rate = Some(rate);
     }
 }
 
-fn quote(tables: &mut [Table], symbol: &Symbol, bid: u32, ask: u32) {
+fn quote(tables: &mut [Table], symbol: &Symbol, bid: u32, ask: u32)
+    ensures { ChangesTable (expiry_of symbol.now) (QuotesInTable symbol.now.side symbol.now.strike bid ask) tables.old tables.new }
+{
     if let Some(place) = place_of(tables, expiry_of(symbol)) {
-        if place < tables.len() {
-            tables[place].set_price(symbol.side, symbol.strike, table::quoted(bid, ask));
-        }
+        tables[place].set_price(symbol.side, symbol.strike, table::quoted(bid, ask));
     }
 }
 
@@ -188,7 +203,9 @@ fn find_table(tables: &[Table], expiry: Expiry) -> Option<&Table>
     tables.iter().find(|table| expiry == table.expiry)
 }
 
-fn expiry_of(symbol: &Symbol) -> Expiry {
+fn expiry_of(symbol: &Symbol) -> Expiry
+    ensures { result ≡ expiry_of symbol.now }
+{
     Expiry {
         root: symbol.root,
         date: symbol.date,

@@ -1,0 +1,23 @@
+-- The book of no event, and after a refusal.
+use Rattle.std.proofs.Common.{List, ◌∙◌}
+use Rattle.vx_feed.specs.declared.events.Event.{Event}
+use Rattle.vx_check.specs.declared.book.PlainBook.{PlainBook}
+use Rattle.vx_check.specs.StandsFor.{StandsFor, IsSameBook}
+use Rattle.vx_check.proofs.NextTables.{AllSay, all_say_still}
+
+pub tables_say : (book : PlainBook) (events : List Event) → StandsFor book events → AllSay book.tables.items events
+tables_say book events h x = record { rate_is = h.rate x; keeps = record { rows_are = h.rows x; halves_are = h.halves x } }
+
+pub stands_still : (old new : PlainBook) (events : List Event) → IsSameBook old new → StandsFor old events → StandsFor new events
+stands_still old new events same h =
+    let all = all_say_still old.tables.items new.tables.items events same.tables (tables_say old events h) in
+    record {
+      lines = same.lines ∙ h.lines;
+      day = same.day ∙ h.day;
+      tick = same.tick ∙ h.tick;
+      expiries = same.expiries ∙ h.expiries;
+      tables = same.tables.expiries ∙ h.tables;
+      rate = λ x. (all x).rate_is;
+      rows = λ x. (all x).keeps.rows_are;
+      halves = λ x. (all x).keeps.halves_are;
+    }

@@ -1,0 +1,36 @@
+-- Lists in rising order of a key, each key once. This project's own.
+use Rattle.std.specs.Prelude.{◌≡◌, ◌≢◌, ℕ, zero, suc, ◌+◌, ◌<◌, ◌≤◌, ◌==◌, Bool, List, [], ◌∷◌, Option, find}
+
+-- each key is at least the low one, and above all before it
+abbrev pub RisesFrom : {X : Type 0} → (X → ℕ) → ℕ → List X → Type 0
+RisesFrom key low [] = Unit {0}
+RisesFrom key low (x ∷ xs) = (low ≤ key x) × RisesFrom key (key x + 1) xs
+
+abbrev pub Rises : {X : Type 0} → (X → ℕ) → List X → Type 0
+Rises key xs = RisesFrom key 0 xs
+
+abbrev pub has_key : {X : Type 0} → (X → ℕ) → ℕ → X → Bool
+has_key key k x = key x == k
+
+-- the item of a key
+abbrev pub item_at : {X : Type 0} → (X → ℕ) → ℕ → List X → Option X
+item_at key k xs = find (has_key key k) xs
+
+-- the item at this place has the key, and those before it have lower ones
+abbrev pub StandsAt : {X : Type 0} → (X → ℕ) → ℕ → ℕ → List X → Type 0
+StandsAt key k place [] = ⊥
+StandsAt key k zero (x ∷ xs) = key x ≡ k
+StandsAt key k (suc place) (x ∷ xs) = (key x < k) × StandsAt key k place xs
+
+-- no item has the key, and one that has it would stand at this place
+abbrev pub FitsAt : {X : Type 0} → (X → ℕ) → ℕ → ℕ → List X → Type 0
+FitsAt key k zero [] = Unit {0}
+FitsAt key k zero (x ∷ xs) = k < key x
+FitsAt key k (suc place) [] = ⊥
+FitsAt key k (suc place) (x ∷ xs) = (key x < k) × FitsAt key k place xs
+
+-- a list in rising order with this item at a key, or with none, and otherwise the items of an old one
+pub record IsWith {X : Type 0} (key : X → ℕ) (k : ℕ) (item : Option X) (old new : List X) : Type 0 where
+  pub rises : Rises key new
+  pub at_key : item_at key k new ≡ item
+  pub others : (other : ℕ) → other ≢ k → item_at key other new ≡ item_at key other old

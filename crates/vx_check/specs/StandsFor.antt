@@ -1,0 +1,71 @@
+-- The book stands for a list of events. This project's own.
+use Rattle.std.specs.Prelude.{◌≡◌, ℕ, Bool, true, false, List, [], ◌∷◌, ◌++◌, length, map, Option, Some, None, option_and_then, option_to_list}
+use Rattle.std.specs.Option.{option_or}
+use Rattle.vx_clock.specs.declared.terms.Expiry.{Expiry}
+use Rattle.vx_symbol.specs.declared.symbols.Side.TheVariants.{Call, Put}
+use Rattle.vx_symbol.specs.declared.rows.Price.{Price}
+use Rattle.vx_feed.specs.declared.events.Event.{Event}
+use Rattle.vx_feed.specs.declared.events.Event.TheVariants as event
+use Rattle.vx_feed.specs.Standing.{standing_rate}
+use Rattle.vx_feed.specs.Listed.{trade_date, header_day, declared_expiries, declared_expiry, is_listed, series_at, standing_price, listed_rows}
+use Rattle.vx_check.specs.declared.book.PlainBook.{PlainBook}
+use Rattle.vx_check.specs.declared.table.Half.{Half}
+use Rattle.vx_check.specs.Rising.{Rises, item_at}
+use Rattle.vx_check.specs.Kept.{kept_rate, kept_rows, kept_halves}
+use Rattle.vx_check.specs.Tables.{half_strike, expiry_of_table, TakesTables, SameTables}
+
+-- the last event
+abbrev pub last_event : List Event → Option Event
+last_event [] = None
+last_event (e ∷ []) = Some e
+last_event (e ∷ f ∷ events) = last_event (f ∷ events)
+
+-- the minute of a tick
+abbrev pub tick_minute : Event → Option ℕ
+tick_minute (event.Tick time) = Some time
+tick_minute _ = None
+
+-- a strike's only listed side with its price; none where both are listed, or neither
+abbrev pub only_side : ℕ → Bool → Bool → Price → Price → Option Half
+only_side strike true false put call = Some (record { strike = strike; side = Put; price = put })
+only_side strike false true put call = Some (record { strike = strike; side = Call; price = call })
+only_side strike _ _ put call = None
+
+-- the same for what the events list and quote
+abbrev pub listed_half : Expiry → List Event → ℕ → Option Half
+listed_half x events strike =
+    let put = series_at x Put strike in
+    let call = series_at x Call strike in
+    only_side strike (is_listed put events) (is_listed call events) (standing_price events put) (standing_price events call)
+
+-- the strikes of which one side is listed, in rising order, with that side and its price
+pub record AreListedHalves (x : Expiry) (events : List Event) (halves : List Half) : Type 0 where
+  pub rises : Rises half_strike halves
+  pub each : (strike : ℕ) → item_at half_strike strike halves ≡ listed_half x events strike
+
+-- the book keeps all that the events say of its number, the trade date, the expiries, their rates and
+-- their listed rows, and whether the last of them is a tick
+pub record StandsFor (book : PlainBook) (events : List Event) : Type 0 where
+  pub lines : book.lines ≡ length events
+  pub day : book.day ≡ trade_date events
+  pub tick : book.tick ≡ option_and_then tick_minute (last_event events)
+  pub expiries : book.expiries.items ≡ declared_expiries events
+  pub tables : map expiry_of_table book.tables.items ≡ declared_expiries events
+  pub rate : (x : Expiry) → kept_rate x book ≡ standing_rate x events
+  pub rows : (x : Expiry) → kept_rows x book ≡ listed_rows x events
+  pub halves : (x : Expiry) → AreListedHalves x events (kept_halves x book)
+
+-- what an event changes of the trade date, the expiries and their tables; the rest stays
+pub record Takes (old : PlainBook) (e : Event) (new : PlainBook) : Type 0 where
+  pub lines : new.lines ≡ old.lines
+  pub day : new.day ≡ option_or (header_day e) old.day
+  pub expiries : new.expiries.items ≡ old.expiries.items ++ option_to_list (declared_expiry e)
+  pub tables : TakesTables e old.tables.items new.tables.items
+
+-- the book says what it said
+pub record IsSameBook (old new : PlainBook) : Type 0 where
+  pub lines : new.lines ≡ old.lines
+  pub day : new.day ≡ old.day
+  pub tick : new.tick ≡ old.tick
+  pub expiries : new.expiries.items ≡ old.expiries.items
+  pub tables : SameTables old.tables.items new.tables.items

@@ -1,0 +1,150 @@
+-- What an event changes of the table of its expiry. This project's own.
+use Rattle.std.specs.Prelude.{◌≡◌, ℕ, zero, suc, ℤ, Bool, true, false, List, [], ◌∷◌, ◌++◌, map, Option, Some, None, option_map, if◌then◌else◌, find}
+use Rattle.vx_clock.specs.declared.terms.Expiry.{Expiry}
+use Rattle.vx_symbol.specs.declared.symbols.Side.{Side}
+use Rattle.vx_symbol.specs.declared.symbols.Side.TheVariants.{Call, Put}
+use Rattle.vx_symbol.specs.declared.rows.Price.{Price}
+use Rattle.vx_symbol.specs.declared.rows.StrikeRow.{StrikeRow}
+use Rattle.vx_feed.specs.declared.events.Event.{Event}
+use Rattle.vx_feed.specs.declared.events.Event.TheVariants as event
+use Rattle.vx_feed.specs.Same.{is_same_expiry, is_same_side}
+use Rattle.vx_feed.specs.Ranges.{IsPrice}
+use Rattle.vx_feed.specs.Standing.{if_standing}
+use Rattle.vx_feed.specs.Listed.{expiry_of, no_price, quoted_price}
+use Rattle.vx_check.specs.declared.table.Half.{Half}
+use Rattle.vx_check.specs.declared.table.Table.{Table}
+use Rattle.vx_check.specs.Kept.{is_table_of}
+use Rattle.vx_check.specs.Rising.{Rises, item_at, IsWith}
+
+abbrev pub row_strike : StrikeRow → ℕ
+row_strike row = row.strike
+
+abbrev pub half_strike : Half → ℕ
+half_strike half = half.strike
+
+-- the price of a quote
+abbrev pub price_of : ℕ → ℕ → Price
+price_of bid ask = quoted_price (if_standing (record { bid = bid; ask = ask }))
+
+-- the row of a strike of which one side was listed, and the other is now
+abbrev pub joined : Half → Side → StrikeRow
+joined half Put = record { strike = half.strike; put = no_price; call = half.price }
+joined half Call = record { strike = half.strike; put = half.price; call = no_price }
+
+-- the row of a strike, where one of its sides is listed now and the other was listed or not
+abbrev pub row_when_listed : Side → Option Half → Option StrikeRow → Option StrikeRow
+row_when_listed side None row = row
+row_when_listed side (Some half) row = Some (joined half side)
+
+-- the strike's only side
+abbrev pub half_when_listed : Side → ℕ → Option Half → Option Half
+half_when_listed side strike None = Some (record { strike = strike; side = side; price = no_price })
+half_when_listed side strike (Some half) = None
+
+-- a row with a price of one side
+abbrev pub row_with_price : Side → Price → StrikeRow → StrikeRow
+row_with_price Put price row = record { strike = row.strike; put = price; call = row.call }
+row_with_price Call price row = record { strike = row.strike; put = row.put; call = price }
+
+-- the only side of a strike, with a price where it is that of this side
+abbrev pub half_with_price : Side → Price → Half → Half
+half_with_price side price half =
+    if is_same_side half.side side then record { strike = half.strike; side = half.side; price = price } else half
+
+-- the only side of a strike that may have a row
+abbrev pub half_when_quoted : Side → Price → Option StrikeRow → Option Half → Option Half
+half_when_quoted side price None half = option_map (half_with_price side price) half
+half_when_quoted side price (Some row) half = half
+
+-- ---- one table
+
+pub record AreRising (table : Table) : Type 0 where
+  pub rows : Rises row_strike table.rows.items
+  pub halves : Rises half_strike table.halves.items
+
+pub record IsEmptyTable (x : Expiry) (table : Table) : Type 0 where
+  pub expiry : table.expiry ≡ x
+  pub rate : table.rate ≡ None
+  pub rows : table.rows.items ≡ []
+  pub halves : table.halves.items ≡ []
+
+pub record IsSameTable (old new : Table) : Type 0 where
+  pub expiry : new.expiry ≡ old.expiry
+  pub rate : new.rate ≡ old.rate
+  pub rows : new.rows.items ≡ old.rows.items
+  pub halves : new.halves.items ≡ old.halves.items
+
+pub record SetsRate (rate : ℤ) (old new : Table) : Type 0 where
+  pub expiry : new.expiry ≡ old.expiry
+  pub rate_is : new.rate ≡ Some rate
+  pub rows : new.rows.items ≡ old.rows.items
+  pub halves : new.halves.items ≡ old.halves.items
+
+-- what listing a series changes of the lists of rows and of single sides
+pub record ListsSeries (side : Side) (strike : ℕ) (rows new_rows : List StrikeRow) (halves new_halves : List Half) : Type 0 where
+  pub in_rows : IsWith row_strike strike (row_when_listed side (item_at half_strike strike halves) (item_at row_strike strike rows)) rows new_rows
+  pub in_halves : IsWith half_strike strike (half_when_listed side strike (item_at half_strike strike halves)) halves new_halves
+
+-- what a quote changes of them
+pub record SetsPrice (side : Side) (strike : ℕ) (price : Price) (rows new_rows : List StrikeRow) (halves new_halves : List Half) : Type 0 where
+  pub in_rows : IsWith row_strike strike (option_map (row_with_price side price) (item_at row_strike strike rows)) rows new_rows
+  pub in_halves : IsWith half_strike strike (half_when_quoted side price (item_at row_strike strike rows) (item_at half_strike strike halves)) halves new_halves
+
+pub record ListsInTable (side : Side) (strike : ℕ) (old new : Table) : Type 0 where
+  pub expiry : new.expiry ≡ old.expiry
+  pub rate : new.rate ≡ old.rate
+  pub series : AreRising old → ListsSeries side strike old.rows.items new.rows.items old.halves.items new.halves.items
+
+pub record SetsPriceInTable (side : Side) (strike : ℕ) (price : Price) (old new : Table) : Type 0 where
+  pub expiry : new.expiry ≡ old.expiry
+  pub rate : new.rate ≡ old.rate
+  pub series : AreRising old → SetsPrice side strike price old.rows.items new.rows.items old.halves.items new.halves.items
+
+-- what a quote changes of the table of its expiry
+pub record QuotesInTable (side : Side) (strike bid ask : ℕ) (old new : Table) : Type 0 where
+  pub expiry : new.expiry ≡ old.expiry
+  pub rate : new.rate ≡ old.rate
+  pub series : IsPrice bid → IsPrice ask → AreRising old
+      → SetsPrice side strike (price_of bid ask) old.rows.items new.rows.items old.halves.items new.halves.items
+
+-- ---- the tables of all expiries
+
+-- the first item that passes the test stands at this place
+abbrev pub IsFirstAt : {X : Type 0} → (X → Bool) → ℕ → List X → Type 0
+IsFirstAt test place [] = ⊥
+IsFirstAt test zero (x ∷ xs) = test x ≡ true
+IsFirstAt test (suc place) (x ∷ xs) = (test x ≡ false) × IsFirstAt test place xs
+
+-- there is none before and none after, or both are related
+abbrev pub AreBoth : {X : Type 0} → (X → X → Type 0) → Option X → Option X → Type 0
+AreBoth R None None = Unit {0}
+AreBoth R (Some a) (Some b) = R a b
+AreBoth R _ _ = ⊥
+
+abbrev pub expiry_of_table : Table → Expiry
+expiry_of_table table = table.expiry
+
+-- the table of one expiry, if there is one, is changed, and no other
+pub record ChangesTable (x : Expiry) (R : Table → Table → Type 0) (old new : List Table) : Type 0 where
+  pub expiries : map expiry_of_table new ≡ map expiry_of_table old
+  pub others : (y : Expiry) → is_same_expiry y x ≡ false → find (is_table_of y) new ≡ find (is_table_of y) old
+  pub own : AreBoth R (find (is_table_of x) old) (find (is_table_of x) new)
+
+-- every table says what it said
+pub record SameTables (old new : List Table) : Type 0 where
+  pub expiries : map expiry_of_table new ≡ map expiry_of_table old
+  pub each : (x : Expiry) → AreBoth IsSameTable (find (is_table_of x) old) (find (is_table_of x) new)
+
+-- an empty table more
+pub record AddsTable (x : Expiry) (old new : List Table) : Type 0 where
+  pub table : Table
+  pub is_empty : IsEmptyTable x table
+  pub added : new ≡ old ++ table ∷ []
+
+-- what an event changes
+abbrev pub TakesTables : Event → List Table → List Table → Type 0
+TakesTables (event.Expiry x) old new = AddsTable x old new
+TakesTables (event.Rate x rate) old new = ChangesTable x (SetsRate rate) old new
+TakesTables (event.Series s) old new = ChangesTable (expiry_of s) (ListsInTable s.side s.strike) old new
+TakesTables (event.Quote time s bid ask) old new = ChangesTable (expiry_of s) (QuotesInTable s.side s.strike bid ask) old new
+TakesTables _ old new = new ≡ old
