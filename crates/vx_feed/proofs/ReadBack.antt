@@ -1,12 +1,10 @@
 -- The line of an event is read back as the event.
-use Rattle.std.proofs.Common.{◌≡◌, refl, sym, ap, ◌∙◌, ℕ, zero, suc, ◌+◌, ◌-◌, ◌*◌, ◌/◌, ◌%◌, ◌^◌, ◌<◌, ◌≤◌, Bool, true, false, not, ◌&&◌, ◌||◌, ◌==◌, nat_le, ℤ, pos, negsuc, neg_ℤ, ◌≤ℤ◌, unsigned_abs, List, [], ◌∷◌, ◌++◌, length, take, drop, slice_index, slice_range, Option, Some, None, Result, Ok, Err, cond, arith}
-use Rattle.std.specs.Prelude.{flat_map}
-use Rattle.std.specs.List.{list_all, list_any, slice_split, All}
-use Rattle.std.specs.Option.{option_map}
+use Rattle.std.proofs.Common.{◌≡◌, refl, ap, ◌∙◌, ℕ, zero, suc, ◌+◌, ◌-◌, ◌*◌, ◌/◌, ◌%◌, ◌^◌, ◌<◌, ◌≤◌, Bool, true, false, not, ◌&&◌, ◌==◌, nat_le, ℤ, pos, negsuc, List, [], ◌∷◌, ◌++◌, length, slice_index, Some, None, Ok, arith}
+use Rattle.std.specs.List.{list_all, All}
 use Rattle.std.specs.Result.{result_ok}
 use Rattle.std.proofs.lemmas.Int.{ints}
 use Rattle.std.proofs.lemmas.Bool.Decides.{nat_tests}
-use Rattle.std.proofs.lemmas.List.{append-nil, append_assoc}
+use Rattle.std.proofs.lemmas.List.{append-nil}
 use Rattle.std.proofs.lemmas.List.Folds.{list_all-append}
 use Rattle.std.proofs.lemmas.List.Elements.{All-nil, All-cons}
 use Rattle.std.proofs.lemmas.List.Splits.{slice_split_none, slice_split_at}
@@ -18,20 +16,19 @@ use Rattle.vx_clock.specs.declared.terms.Root.{Root}
 use Rattle.vx_clock.specs.declared.terms.Root.TheVariants.{Spx, Spxw}
 use Rattle.vx_clock.specs.Clock.{clock_text}
 use Rattle.vx_clock.specs.Day.{IsDayInRange}
-use Rattle.vx_clock.specs.DayText.{day_text, digit_at}
+use Rattle.vx_clock.specs.DayText.{day_text}
 use Rattle.vx_clock.proofs.DigitText.{is_digit as is_digit_at}
 use Rattle.vx_clock.proofs.DayTexts.{read_back_day}
 use Rattle.vx_symbol.specs.declared.symbols.Side.{Side}
 use Rattle.vx_symbol.specs.declared.symbols.Side.TheVariants.{Call, Put}
 use Rattle.vx_symbol.specs.declared.symbols.Symbol.{Symbol}
 use Rattle.vx_symbol.specs.Rows.{IsRateInRange}
-use Rattle.vx_symbol.specs.Symbol.{root_text, side_byte, IsSymbolInRange}
+use Rattle.vx_symbol.specs.Symbol.{IsSymbolInRange}
 use Rattle.vx_symbol.specs.SymbolText.{symbol_text}
 use Rattle.vx_symbol.proofs.SymbolTexts.{read_back_symbol}
 use Rattle.vx_fields.specs.Lines.{comma, is_plain, fields_of_line}
 use Rattle.vx_feed.specs.declared.events.Event.{Event}
 use Rattle.vx_feed.specs.declared.events.Event.TheVariants as event
-use Rattle.vx_feed.specs.declared.faults.FeedFault.{FeedFault}
 use Rattle.vx_feed.specs.declared.kinds.Kind.TheVariants as kind
 use Rattle.vx_feed.specs.Feed.{event_of_line, event_in_order, event_unless}
 use Rattle.vx_feed.specs.Form.{event_of_fields, date_of_text, root_of_text, time_of_text, rate_of_text, price_of_text, if_positive, count_of_text, series_of_text, kind_text}

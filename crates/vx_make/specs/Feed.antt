@@ -1,7 +1,6 @@
 -- Sample feeds (this project's own): the terms and series of a day, and then tick after tick the quotes
 -- of all series, which are drawn anew at each tick.
 use Rattle.std.specs.Prelude.{ℕ, ◌+◌, ◌*◌, List, [], ◌∷◌, ◌++◌, length}
-use Rattle.vx_clock.specs.declared.days.DayNo.{DayNo}
 use Rattle.vx_clock.specs.declared.terms.Root.TheVariants.{Spx, Spxw}
 use Rattle.vx_clock.specs.declared.terms.Expiry.{Expiry}
 use Rattle.vx_symbol.specs.declared.symbols.Side.TheVariants.{Call, Put}
@@ -9,7 +8,7 @@ use Rattle.vx_feed.specs.declared.events.Event.{Event}
 use Rattle.vx_feed.specs.declared.events.Event.TheVariants as event
 use Rattle.vx_feed.specs.Written.{text_of_events}
 use Rattle.vx_make.specs.declared.limits.TheConstants.{FIRST_MINUTE, TRADE_DAY, STANDARD_DAY, WEEKLY_DAY, STANDARD_RATE, WEEKLY_RATE, STRIKES}
-use Rattle.vx_make.specs.Drawing.{state_after}
+use Rattle.vx_make.specs.Drawing.{next_state, state_after}
 use Rattle.vx_make.specs.Quotes.{for_each, series_at, expiry_quotes, drawn_centre}
 
 -- the two terms
@@ -28,28 +27,31 @@ declared_terms =
     event.Expiry standard_term ∷ event.Expiry weekly_term ∷ event.Rate standard_term STANDARD_RATE
     ∷ event.Rate weekly_term WEEKLY_RATE ∷ []
 
--- the series of a term, strike by strike, the call before the put
+-- the call and the put of a term at a strike
+abbrev pub strike_series : Expiry → ℕ → List Event
+strike_series x i = event.Series (series_at x Call i) ∷ event.Series (series_at x Put i) ∷ []
+
+-- the series of a term, strike by strike
 abbrev pub listed_series : Expiry → List Event
-listed_series x =
-    for_each STRIKES (λ i. event.Series (series_at x Call i) ∷ event.Series (series_at x Put i) ∷ [])
+listed_series x = for_each STRIKES (strike_series x)
 
 -- how many draws a tick takes: one for the centre and two for each series
 abbrev pub tick_draws : ℕ
 tick_draws = 1 + 2 * (4 * STRIKES)
 
--- the quotes of a tick and the tick, from a state on
+-- the quotes of a tick and the tick, at a minute and from a state on
 unfoldable pub tick_events : ℕ → ℕ → List Event
-tick_events t state =
-    let time = FIRST_MINUTE + t in
-    let first = state_after 1 state in
+tick_events time state =
+    let first = next_state state in
     let centre = drawn_centre first in
     expiry_quotes time centre standard_term first
     ++ expiry_quotes time centre weekly_term (state_after (4 * STRIKES) first)
     ++ event.Tick time ∷ []
 
--- the first so many ticks with their quotes; the number is the state before the first
+-- the first so many ticks with their quotes, a minute apart; the number is the state before the first
 abbrev pub ticks_events : ℕ → ℕ → List Event
-ticks_events number ticks = for_each ticks (λ t. tick_events t (state_after (tick_draws * t) number))
+ticks_events number ticks =
+    for_each ticks (λ t. tick_events (FIRST_MINUTE + t) (state_after (tick_draws * t) number))
 
 -- what stands between the header and the end
 abbrev pub body_events : ℕ → ℕ → List Event

@@ -55,14 +55,14 @@ drawn_ask bid state = bid + SPREAD_MIN + value_below SPREADS state
 -- the quote of a series at a minute, about a centre, from a state on
 unfoldable pub drawn_quote : ℕ → ℕ → Symbol → ℕ → Event
 drawn_quote time centre s state =
-    let bid = drawn_bid centre s (state_after 1 state) in
-    event.Quote time s bid (drawn_ask bid (state_after 2 state))
+    let bid = drawn_bid centre s (next_state state) in
+    event.Quote time s bid (drawn_ask bid (next_state (next_state state)))
 
 -- the quotes of an expiry's call and put at a strike
 abbrev pub strike_quotes : ℕ → ℕ → Expiry → ℕ → ℕ → List Event
 strike_quotes time centre x i state =
     drawn_quote time centre (series_at x Call i) state
-    ∷ drawn_quote time centre (series_at x Put i) (state_after 2 state) ∷ []
+    ∷ drawn_quote time centre (series_at x Put i) (next_state (next_state state)) ∷ []
 
 -- the quotes of all series of an expiry, strike by strike, with four draws for each strike
 abbrev pub expiry_quotes : ℕ → ℕ → Expiry → ℕ → List Event

@@ -3,6 +3,13 @@
 #![tactic(auto)]
 
 mod drawing;
+mod feed;
+pub mod laws;
 pub mod limits;
+mod quotes;
 
 pub use drawing::draw;
+pub use feed::make_feed;
+
+#[cfg(test)]
+mod tests;

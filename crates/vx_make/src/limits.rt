@@ -43,11 +43,17 @@ pub const STRIKE_FIRST: u32 = 1_500_000;
 /// From one strike to the next, 5 points, in thousandths of a point.
 pub const STRIKE_STEP: u32 = 5_000;
 
+/// The greatest strike, 2495 points, in thousandths of a point.
+pub const STRIKE_LAST: u32 = STRIKE_FIRST + STRIKE_STEP * (STRIKES - 1);
+
 /// The least centre of a tick's prices, 1950 points, in cents.
 pub const CENTRE_MIN: u32 = 195_000;
 
 /// How many centres there are, a cent apart.
 pub const CENTRES: u32 = 2_001;
+
+/// The greatest centre, 1970 points, in cents.
+pub const CENTRE_MAX: u32 = CENTRE_MIN + (CENTRES - 1);
 
 /// The time value of a series whose strike is the centre, in cents.
 pub const TIME_VALUE_MAX: u32 = 3_000;
@@ -66,3 +72,10 @@ pub const SPREAD_MIN: u32 = 5;
 
 /// How many distances from bid to ask there are, a cent apart.
 pub const SPREADS: u32 = 6;
+
+/// How many lines stand between the header and the quotes of the first tick: those of two terms and
+/// two rates, and of the series of both terms.
+pub const TERM_LINES: u32 = 4 + 4 * STRIKES;
+
+/// How many lines a tick has: the quotes of all series, and its own.
+pub const TICK_LINES: u32 = 4 * STRIKES + 1;
