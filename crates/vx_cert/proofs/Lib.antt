@@ -1,3 +1,5 @@
 pub mod Values
 pub mod Reading
 pub mod Faults
+pub mod WrittenTexts
+pub mod WrittenData

@@ -57,16 +57,23 @@ ends_data ends = two_wide ends.lo ends.hi
 abbrev pub taylor_data : List ℕ → Data
 taylor_data terms = list_from (map (λ term. wide_number (pos term)) terms)
 
+-- the Taylor terms of both sides
+abbrev pub taylor_pair_data : List ℕ → List ℕ → Data
+taylor_pair_data low high = list_from (taylor_data low ∷ taylor_data high ∷ [])
+
 abbrev pub row_data : CertRow → Data
 row_data row =
     list_from (whole_number row.strike ∷ whole_number row.d ∷ whole_number row.q4
     ∷ wide_number (pos row.lo) ∷ wide_number (pos row.hi) ∷ [])
 
+abbrev pub rows_data : List CertRow → Data
+rows_data rows = list_from (map row_data rows)
+
 abbrev pub term_data : CertTerm → Data
 term_data term = object_from (
     (codes "date", string (day_text term.expiry.date))
     ∷ (codes "e", ends_data term.e)
-    ∷ (codes "exp", list_from (taylor_data term.t_lo ∷ taylor_data term.t_hi ∷ []))
+    ∷ (codes "exp", taylor_pair_data term.t_lo term.t_hi)
     ∷ (codes "f", ends_data term.f)
     ∷ (codes "g", ends_data term.g)
     ∷ (codes "k0", whole_number term.k0)
@@ -74,7 +81,7 @@ term_data term = object_from (
     ∷ (codes "pair", pair_data term.pair)
     ∷ (codes "rate", signed_number term.rate)
     ∷ (codes "root", string (root_name term.expiry.root))
-    ∷ (codes "rows", list_from (map row_data term.rows))
+    ∷ (codes "rows", rows_data term.rows)
     ∷ (codes "s", ends_data term.s)
     ∷ (codes "w", ends_data term.w)
     ∷ [])
@@ -105,20 +112,24 @@ one_term_data kind c term figure = object_from (
     ∷ (codes "x", ends_data figure.x)
     ∷ [])
 
--- kind index
-abbrev pub index_data : Certificate → ℕ → CertTerm → CertTerm → CertFigure → Data
-index_data c days near next figure = object_from (
+-- kind index, by the values of its two terms
+abbrev pub index_of_data : Certificate → ℕ → Data → Data → CertFigure → Data
+index_of_data c days near next figure = object_from (
     (codes "cents", whole_number figure.cents)
     ∷ (codes "days", whole_number days)
     ∷ (codes "ends", two_wide figure.lo figure.hi)
     ∷ (codes "kind", string (codes "index"))
     ∷ (codes "line", whole_number c.line)
-    ∷ (codes "near", term_data near)
-    ∷ (codes "next", term_data next)
+    ∷ (codes "near", near)
+    ∷ (codes "next", next)
     ∷ (codes "time", string (clock_text c.time))
     ∷ (codes "v", whole_number c.v)
     ∷ (codes "x", ends_data figure.x)
     ∷ [])
+
+-- kind index
+abbrev pub index_data : Certificate → ℕ → CertTerm → CertTerm → CertFigure → Data
+index_data c days near next figure = index_of_data c days (term_data near) (term_data next) figure
 
 -- a certificate by its body
 abbrev pub data_by_kind : Certificate → CertBody → Data

@@ -1,5 +1,5 @@
 //! Certificates: what a published figure rests on, number by number, so that somebody else can
-//! test it. This crate has their types, and reads them from lines of JSON.
+//! test it. This crate has their types, reads them from lines of JSON, and writes them.
 #![tactic(auto)]
 
 pub mod certificate;
@@ -11,8 +11,13 @@ mod read;
 pub mod rows;
 #[cfg(test)]
 mod tests;
+mod value;
+mod write;
+#[cfg(test)]
+mod write_tests;
 
 pub use certificate::{CertBody, CertFigure, CertTerm, Certificate, Ends, Pair};
 pub use fault::CertFault;
 pub use read::read_cert;
 pub use rows::{CertRow, CertRows};
+pub use write::write_cert;

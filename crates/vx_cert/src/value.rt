@@ -1,0 +1,166 @@
+//! The values of JSON that a certificate's fields are written as.
+
+ghost use Rattle.std.specs.Prelude.{◌≡◌, ◌≤◌, [], ◌∷◌, ◌++◌, IfOk, IsUtf8, map, OnOk};
+ghost use Rattle.serde_json.specs.Data.{string, put as with_member};
+ghost use Rattle.serde_json.specs.View.{view, members_view};
+ghost use Rattle.vx_clock.specs.Clock.{clock_text};
+ghost use Rattle.vx_clock.specs.Day.{IsDayInRange};
+ghost use Rattle.vx_clock.specs.DayText.{day_text};
+ghost use Rattle.vx_clock.specs.declared.limits.TheConstants.{MINUTE_MAX};
+ghost use Rattle.vx_cert.specs.Written.{ends_data, pair_data, root_name, row_data, rows_data, taylor_data, taylor_pair_data, two_wide, wide_number};
+
+use crate::certificate::{Ends, Pair};
+use crate::form::TaylorTerms;
+use crate::rows::{CertRow, CertRows};
+use serde_json::{Map, Value};
+use std::alloc::Global;
+use vx_clock::{DayNo, Root, write_clock, write_day};
+use vx_num::{NoMemory, write_wide};
+
+/// A text.
+fn text(alloc: Global, bytes: &[u8]) -> Result<Value, NoMemory>
+    requires { IsUtf8 bytes.now }
+    ensures { IfOk result (λ v. view v ≡ string bytes.now) }
+{
+    match str::from_utf8(bytes) {
+        Ok(text) => Value::try_from_str(alloc, text).map_err(|_| NoMemory),
+        Err(_) => unreachable!(),
+    }
+}
+
+/// Puts a field into an object.
+pub fn field(
+    alloc: Global,
+    fields: &mut Map<String, Value>,
+    key: &str,
+    value: Value,
+) -> Result<(), NoMemory>
+    ensures { OnOk result (members_view fields.new.entries
+        ≡ with_member key.now (view value) (members_view fields.old.entries)) }
+{
+    serde_json::put(fields, alloc, key, value).map_err(|_| NoMemory)
+}
+
+/// A name.
+pub fn name(alloc: Global, text: &str) -> Result<Value, NoMemory>
+    ensures { IfOk result (λ v. view v ≡ string text.now) }
+{
+    Value::try_from_str(alloc, text).map_err(|_| NoMemory)
+}
+
+/// `SPX` or `SPXW`.
+pub fn root(alloc: Global, root: Root) -> Result<Value, NoMemory>
+    ensures { IfOk result (λ v. view v ≡ string (root_name root)) }
+{
+    match root {
+        Root::Spx => name(alloc, "SPX"),
+        Root::Spxw => name(alloc, "SPXW"),
+    }
+}
+
+/// A day as `yyyy-mm-dd`.
+pub fn date(alloc: Global, day: DayNo) -> Result<Value, NoMemory>
+    requires { IsDayInRange day }
+    ensures { IfOk result (λ v. view v ≡ string (day_text day)) }
+{
+    text(alloc, &write_day(day))
+}
+
+/// A minute of the day as `hh:mm`.
+#[tactic(auto, using(crate::proofs::WrittenTexts::clock_text_utf8))]
+pub fn time(alloc: Global, minute: u16) -> Result<Value, NoMemory>
+    requires { minute ≤ MINUTE_MAX }
+    ensures { IfOk result (λ v. view v ≡ string (clock_text minute)) }
+{
+    text(alloc, &write_clock(minute))
+}
+
+/// A wide number, as a text.
+fn wide(alloc: Global, number: i128) -> Result<Value, NoMemory>
+    ensures { IfOk result (λ v. view v ≡ wide_number number) }
+{
+    let mut digits = Vec::new(alloc);
+    write_wide(alloc, &mut digits, number)?;
+    text(alloc, digits.as_slice())
+}
+
+/// Two wide numbers.
+pub fn two_wide(alloc: Global, lo: i128, hi: i128) -> Result<Value, NoMemory>
+    ensures { IfOk result (λ v. view v ≡ two_wide lo hi) }
+{
+    let mut values = Vec::new(alloc);
+    push(&mut values, wide(alloc, lo)?)?;
+    push(&mut values, wide(alloc, hi)?)?;
+    Ok(Value::Array(values))
+}
+
+/// The ends of an interval.
+pub fn ends(alloc: Global, ends: Ends) -> Result<Value, NoMemory>
+    ensures { IfOk result (λ v. view v ≡ ends_data ends) }
+{
+    two_wide(alloc, ends.lo, ends.hi)
+}
+
+/// A strike and a difference of half prices.
+pub fn pair(alloc: Global, pair: Pair) -> Result<Value, NoMemory>
+    ensures { IfOk result (λ v. view v ≡ pair_data pair) }
+{
+    let mut values = Vec::new(alloc);
+    push(&mut values, Value::from(pair.strike))?;
+    push(&mut values, Value::from(pair.d))?;
+    Ok(Value::Array(values))
+}
+
+/// The Taylor terms of one side.
+fn taylor_terms(alloc: Global, terms: &TaylorTerms) -> Result<Value, NoMemory>
+    ensures { IfOk result (λ v. view v ≡ taylor_data terms.now) }
+{
+    let mut values = Vec::new(alloc);
+    for term in terms {
+        let value = wide(alloc, i128::from(*term))?;
+        push(&mut values, value)?;
+    }
+    Ok(Value::Array(values))
+}
+
+/// The Taylor terms of both sides.
+pub fn taylor(alloc: Global, low: &TaylorTerms, high: &TaylorTerms) -> Result<Value, NoMemory>
+    ensures { IfOk result (λ v. view v ≡ taylor_pair_data low.now high.now) }
+{
+    let mut values = Vec::new(alloc);
+    push(&mut values, taylor_terms(alloc, low)?)?;
+    push(&mut values, taylor_terms(alloc, high)?)?;
+    Ok(Value::Array(values))
+}
+
+/// Puts a value last in a list.
+fn push(values: &mut Vec<Value>, value: Value) -> Result<(), NoMemory>
+    ensures { OnOk result (map view values.new.items ≡ map view values.old.items ++ view value ∷ []) }
+{
+    values.push(value).map_err(|_| NoMemory)
+}
+
+/// A row: strike, doubled width, price and two ends.
+fn row(alloc: Global, row: CertRow) -> Result<Value, NoMemory>
+    ensures { IfOk result (λ v. view v ≡ row_data row) }
+{
+    let mut values = Vec::new(alloc);
+    push(&mut values, Value::from(row.strike))?;
+    push(&mut values, Value::from(row.d))?;
+    push(&mut values, Value::from(row.q4))?;
+    push(&mut values, wide(alloc, i128::from(row.lo))?)?;
+    push(&mut values, wide(alloc, i128::from(row.hi))?)?;
+    Ok(Value::Array(values))
+}
+
+/// The rows of a strip.
+pub fn rows(alloc: Global, rows: &CertRows) -> Result<Value, NoMemory>
+    ensures { IfOk result (λ v. view v ≡ rows_data rows.now) }
+{
+    let mut values = Vec::new(alloc);
+    for item in rows.items() {
+        let value = row(alloc, *item)?;
+        push(&mut values, value)?;
+    }
+    Ok(Value::Array(values))
+}

@@ -1,0 +1,209 @@
+//! Writing a certificate as a line of JSON.
+
+ghost use Rattle.std.specs.Prelude.{◌≡◌, ◌≤◌, [], ◌∷◌, ◌++◌, false, IfOk, OnErr, OnOk, string_bytes};
+ghost use Rattle.serde_json.specs.View.{view};
+ghost use Rattle.serde_json.specs.Written.{compact_text, has_float};
+ghost use Rattle.vx_clock.specs.declared.limits.TheConstants.{MINUTE_MAX};
+ghost use Rattle.vx_cert.specs.Ranges.{IsCertificateInRange, IsExpiryInRange, IsTermInRange};
+ghost use Rattle.vx_cert.specs.Written.{certificate_data, certificate_text, data_by_kind, level_data, one_term_data, index_data, index_of_data, term_data};
+
+use crate::certificate::{CertBody, CertFigure, CertTerm, Certificate, Pair};
+use crate::value;
+use crate::value::field;
+use serde_json::{Map, Value};
+use std::alloc::Global;
+use vx_clock::Expiry;
+use vx_num::NoMemory;
+
+/// Appends the line of a certificate: one object of JSON with no space and its keys in byte order,
+/// and LF. [`crate::read_cert`] reads it back.
+///
+/// # Errors
+///
+/// `NoMemory`, and then `out` is unchanged.
+pub fn write_cert(alloc: Global, c: &Certificate, out: &mut Vec<u8>) -> Result<(), NoMemory>
+    requires { IsCertificateInRange c.now }
+    ensures written { OnOk result (out.new.items ≡ out.old.items ++ certificate_text c.now) }
+    ensures refused { OnErr result (out.new.items ≡ out.old.items) }
+{
+    let line = line_of(alloc, c)?;
+    out.extend_from_slice(line.as_bytes()).map_err(|_| NoMemory)
+}
+
+/// The line of a certificate, with its LF.
+fn line_of(alloc: Global, c: &Certificate) -> Result<String, NoMemory>
+    requires { IsCertificateInRange c.now }
+    ensures { IfOk result (λ line. string_bytes line ≡ certificate_text c.now) }
+{
+    let value = certificate(alloc, c)?;
+    let text = text_of(alloc, &value)?;
+    ended(text)
+}
+
+fn text_of(alloc: Global, value: &Value) -> Result<String, NoMemory>
+    requires { has_float (view value.now) ≡ false }
+    ensures { IfOk result (λ text. string_bytes text ≡ compact_text (view value.now)) }
+{
+    value.to_string(alloc).map_err(|_| NoMemory)
+}
+
+fn ended(text: String) -> Result<String, NoMemory>
+    ensures { IfOk result (λ line. string_bytes line ≡ string_bytes text ++ 10 ∷ []) }
+{
+    let mut line = text;
+    line.push('\n').map_err(|_| NoMemory)?;
+    Ok(line)
+}
+
+fn certificate(alloc: Global, c: &Certificate) -> Result<Value, NoMemory>
+    requires { IsCertificateInRange c.now }
+    ensures { IfOk result (λ v. view v ≡ certificate_data c.now) }
+{
+    match &c.body {
+        CertBody::K0 { expiry, pair, k0 } => level(alloc, c, *expiry, *pair, *k0),
+        CertBody::Single { term, figure } => one_term(alloc, "single", c, term, figure),
+        CertBody::Index {
+            days,
+            near,
+            next,
+            figure,
+        } => index(alloc, c, *days, near, next, figure),
+        CertBody::Soq { term, figure } => one_term(alloc, "soq", c, term, figure),
+    }
+}
+
+fn level(
+    alloc: Global,
+    c: &Certificate,
+    expiry: Expiry,
+    pair: Pair,
+    k0: u32,
+) -> Result<Value, NoMemory>
+    requires time { c.now.time ≤ MINUTE_MAX }
+    requires expiry { IsExpiryInRange expiry }
+    ensures { IfOk result (λ v. view v ≡ level_data c.now expiry pair k0) }
+{
+    let mut fields = Map::new(alloc);
+    field(alloc, &mut fields, "v", Value::from(c.v))?;
+    field(alloc, &mut fields, "time", value::time(alloc, c.time)?)?;
+    field(alloc, &mut fields, "root", value::root(alloc, expiry.root)?)?;
+    field(alloc, &mut fields, "pair", value::pair(alloc, pair)?)?;
+    field(alloc, &mut fields, "line", Value::from(c.line))?;
+    field(alloc, &mut fields, "kind", value::name(alloc, "k0")?)?;
+    field(alloc, &mut fields, "k0", Value::from(k0))?;
+    field(alloc, &mut fields, "date", value::date(alloc, expiry.date)?)?;
+    Ok(Value::Object(fields))
+}
+
+fn one_term(
+    alloc: Global,
+    kind: &str,
+    c: &Certificate,
+    term: &CertTerm,
+    figure: &CertFigure,
+) -> Result<Value, NoMemory>
+    requires time { c.now.time ≤ MINUTE_MAX }
+    requires term { IsTermInRange term.now }
+    ensures { IfOk result (λ v. view v ≡ one_term_data kind.now c.now term.now figure.now) }
+{
+    let mut fields = Map::new(alloc);
+    field(alloc, &mut fields, "x", value::ends(alloc, figure.x)?)?;
+    field(alloc, &mut fields, "v", Value::from(c.v))?;
+    field(alloc, &mut fields, "time", value::time(alloc, c.time)?)?;
+    field(alloc, &mut fields, "term", term_value(alloc, term)?)?;
+    field(alloc, &mut fields, "line", Value::from(c.line))?;
+    field(alloc, &mut fields, "kind", value::name(alloc, kind)?)?;
+    field(
+        alloc,
+        &mut fields,
+        "ends",
+        value::two_wide(alloc, i128::from(figure.lo), i128::from(figure.hi))?,
+    )?;
+    field(alloc, &mut fields, "cents", Value::from(figure.cents))?;
+    Ok(Value::Object(fields))
+}
+
+fn index(
+    alloc: Global,
+    c: &Certificate,
+    days: u32,
+    near: &CertTerm,
+    next: &CertTerm,
+    figure: &CertFigure,
+) -> Result<Value, NoMemory>
+    requires time { c.now.time ≤ MINUTE_MAX }
+    requires near { IsTermInRange near.now }
+    requires next { IsTermInRange next.now }
+    ensures { IfOk result (λ v. view v ≡ index_data c.now days near.now next.now figure.now) }
+{
+    let near = term_value(alloc, near)?;
+    let next = term_value(alloc, next)?;
+    index_of_values(alloc, c, days, near, next, figure)
+}
+
+fn index_of_values(
+    alloc: Global,
+    c: &Certificate,
+    days: u32,
+    near: Value,
+    next: Value,
+    figure: &CertFigure,
+) -> Result<Value, NoMemory>
+    requires { c.now.time ≤ MINUTE_MAX }
+    ensures { IfOk result (λ v. view v
+        ≡ index_of_data c.now days (view near) (view next) figure.now) }
+{
+    let mut fields = Map::new(alloc);
+    field(alloc, &mut fields, "next", next)?;
+    field(alloc, &mut fields, "near", near)?;
+    field(alloc, &mut fields, "x", value::ends(alloc, figure.x)?)?;
+    field(alloc, &mut fields, "v", Value::from(c.v))?;
+    field(alloc, &mut fields, "time", value::time(alloc, c.time)?)?;
+    field(alloc, &mut fields, "line", Value::from(c.line))?;
+    field(alloc, &mut fields, "kind", value::name(alloc, "index")?)?;
+    field(
+        alloc,
+        &mut fields,
+        "ends",
+        value::two_wide(alloc, i128::from(figure.lo), i128::from(figure.hi))?,
+    )?;
+    field(alloc, &mut fields, "days", Value::from(days))?;
+    field(alloc, &mut fields, "cents", Value::from(figure.cents))?;
+    Ok(Value::Object(fields))
+}
+
+fn term_value(alloc: Global, term: &CertTerm) -> Result<Value, NoMemory>
+    requires { IsTermInRange term.now }
+    ensures { IfOk result (λ v. view v ≡ term_data term.now) }
+{
+    let mut fields = Map::new(alloc);
+    field(alloc, &mut fields, "w", value::ends(alloc, term.w)?)?;
+    field(alloc, &mut fields, "s", value::ends(alloc, term.s)?)?;
+    field(alloc, &mut fields, "rows", value::rows(alloc, &term.rows)?)?;
+    field(
+        alloc,
+        &mut fields,
+        "root",
+        value::root(alloc, term.expiry.root)?,
+    )?;
+    field(alloc, &mut fields, "rate", Value::from(term.rate))?;
+    field(alloc, &mut fields, "pair", value::pair(alloc, term.pair)?)?;
+    field(alloc, &mut fields, "minutes", Value::from(term.minutes))?;
+    field(alloc, &mut fields, "k0", Value::from(term.k0))?;
+    field(alloc, &mut fields, "g", value::ends(alloc, term.g)?)?;
+    field(alloc, &mut fields, "f", value::ends(alloc, term.f)?)?;
+    field(
+        alloc,
+        &mut fields,
+        "exp",
+        value::taylor(alloc, &term.t_lo, &term.t_hi)?,
+    )?;
+    field(alloc, &mut fields, "e", value::ends(alloc, term.e)?)?;
+    field(
+        alloc,
+        &mut fields,
+        "date",
+        value::date(alloc, term.expiry.date)?,
+    )?;
+    Ok(Value::Object(fields))
+}
