@@ -6,3 +6,7 @@ pub mod TermAnswerIsOne
 pub mod Weights
 -- ends are in order
 pub mod Ordered
+-- the excess of the forward and the variance
+pub mod Variances
+-- from a told level to the answer
+pub mod ToldLevels

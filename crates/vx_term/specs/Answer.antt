@@ -1,8 +1,10 @@
 -- The answer for one term, as the bounded arithmetic gives it at a scale: a function of what is known of the term. This project's own.
-use Rattle.std.specs.Prelude.{◌≡◌, ℕ, ℤ, Some, None}
+use Rattle.std.specs.Prelude.{◌≡◌, ℕ, ℤ, List, Some, None}
 use Rattle.vx_clock.specs.declared.terms.Expiry.{Expiry}
 use Rattle.vx_interval.specs.Ends.{Ends}
+use Rattle.vx_symbol.specs.declared.rows.StrikeRow.{StrikeRow}
 use Rattle.vx_bounds.specs.Exponential.{signed_ends}
+use Rattle.vx_bounds.specs.declared.exponential.ExpRun.{ExpRun}
 use Rattle.vx_formula.specs.Term.{TermFacts, exponent}
 use Rattle.vx_forward.specs.declared.level.K0Answer.TheVariants as level
 use Rattle.vx_term.specs.declared.answer.TermRefusal.{TermRefusal}
@@ -40,3 +42,17 @@ IsTermAnswer P x facts (Run run) = IsRun P x facts run
 IsTermAnswer P x facts (Refused refusal) = RefusesTerm P facts refusal
 IsTermAnswer P x facts (UndecidedForward strike lo hi) =
     AtStandingRate P facts (λ e. Says P facts.rows e (level.Straddle strike lo hi))
+
+-- the run has the numbers of these rows, and what was given with them
+pub record IsRunFrom (P : ℕ) (x : Expiry) (minutes : ℕ) (rate : ℤ) (exp : ExpRun P) (rows : List StrikeRow) (run : TermRun P) : Type 0 where
+  pub expiry_is : run.expiry ≡ x
+  pub minutes_are : run.minutes ≡ minutes
+  pub rate_is : run.rate ≡ rate
+  pub exp_is : run.exp ≡ exp
+  pub numbers_are : IsRunOfRows P rows exp.value run
+
+-- the answer for the rows of an expiry, where so many minutes, a rate and an exponential are given with them
+abbrev pub IsAnswerOfRows : (P : ℕ) → Expiry → ℕ → ℤ → ExpRun P → List StrikeRow → TermAnswer P → Type 0
+IsAnswerOfRows P x minutes rate exp rows (Run run) = IsRunFrom P x minutes rate exp rows run
+IsAnswerOfRows P x minutes rate exp rows (Refused refusal) = RefusesRows P rows exp.value refusal
+IsAnswerOfRows P x minutes rate exp rows (UndecidedForward strike lo hi) = Says P rows exp.value (level.Straddle strike lo hi)

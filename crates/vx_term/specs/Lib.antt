@@ -4,4 +4,5 @@ pub mod Index
 pub mod Ranges
 pub mod Runs
 pub mod Answer
+pub mod Steps
 pub mod Laws

@@ -1,14 +1,18 @@
-//! One term's variance: the numbers on the way to it, in bounded arithmetic, or why there is none.
+//! One term's variance: the numbers on the way to it, in bounded arithmetic, or why there is none; and
+//! the square of the index, from the variances of two terms or of one.
 //!
-//! Today this crate has the types, the definition of the answer, and that there is at most one; the
-//! calls come with the calculator.
+//! Every answer is the one that the definitions in `specs/` give, and a term has at most one. Each
+//! number is an interval that encloses its exact value.
 #![tactic(auto)]
 
 mod answer;
 mod index;
 mod laws;
 pub mod limits;
+mod steps;
+mod variance;
 
 pub use answer::{TermAnswer, TermRefusal, TermRun};
 pub use index::{interpolate, single};
 pub use laws::{square_is_ordered, term_answer_is_one, variance_is_ordered};
+pub use variance::{term_variance, variance_with};

@@ -1,0 +1,170 @@
+-- From a told level to a term's answer.
+use Rattle.std.proofs.Common.{◌≡◌, ◌∙◌, ℕ, ◌*◌, ◌^◌, ◌<◌, ◌≤◌, ℤ, pos, ◌-ℤ◌, ◌*ℤ◌, ◌≤ℤ◌, ◌<ℤ◌, nat_abs, List, Some, sym, ap, ap₂, subst, arith, lit<, lt_of_le_of_lt, to_z, of_z, to_z-of_z}
+use Rattle.std.specs.Prelude.{slice_get, length, Option, Result, Ok, Err, IfOk, IfSome, FitsSigned}
+use Rattle.std.proofs.lemmas.Int.{ints, by_lt_z, fits_signed_from_abs}
+use mir.Syntax.{w32}
+use Rattle.std.proofs.lemmas.Option.{slice_get_within, get_or_from_slice_get}
+use Rattle.vx_num.proofs.Whole.{mul_cancel_strict}
+use Rattle.vx_symbol.specs.declared.rows.StrikeRow.{StrikeRow}
+use Rattle.vx_symbol.specs.Rows.{IsLawfulRow, AreLawfulRows, IsRateInRange}
+use Rattle.vx_symbol.specs.Symbol.{IsStrikeInRange}
+use Rattle.vx_interval.specs.Ends.{Ends, unit}
+use Rattle.vx_interval.proofs.EndsLemmas.{unit_positive}
+use Rattle.vx_formula.specs.Refusal.{HasNoneAbove}
+use Rattle.vx_symbol.specs.declared.limits.TheConstants.{HALF_MAX}
+use Rattle.vx_interval.proofs.Widths.{within}
+use Rattle.vx_formula.specs.Pair.{Pair, pair_of, IsClosestPair, live_pairs}
+use Rattle.vx_formula.proofs.Lists.{in_from_contains, all_in}
+use Rattle.vx_formula.proofs.PairLemmas.{row_of_pair}
+use Rattle.vx_forward.specs.Forward.{printed_forward}
+use Rattle.vx_forward.specs.Level.{IsLevelRow}
+use Rattle.vx_forward.specs.declared.level.K0Answer.TheVariants as level
+use Rattle.vx_forward.proofs.Printed.{level_lies_below}
+use Rattle.vx_strip.specs.Entries.{strike_at}
+use Rattle.vx_strip.proofs.Walks.{no_row}
+use Rattle.vx_strip.proofs.Sides.{strike_at_read}
+use Rattle.vx_sum.specs.declared.sum.StripSum.{StripSum}
+use Rattle.vx_sum.specs.Sums.{IsSumOf}
+use Rattle.vx_formula.specs.Strip.{StripEntry}
+use Rattle.vx_term.specs.declared.steps.Told.{Told}
+use Rattle.vx_num.specs.Fraction.{Fraction}
+use Rattle.vx_clock.specs.declared.terms.Expiry.{Expiry}
+use Rattle.vx_bounds.specs.Exponential.{IsTerms, low_term, high_term, signed_ends}
+use Rattle.vx_bounds.specs.declared.exponential.ExpRun.{ExpRun}
+use Rattle.vx_formula.specs.Term.{TermFacts, exponent}
+use Rattle.vx_term.specs.declared.answer.TermRefusal.{TermRefusal}
+use Rattle.vx_term.specs.declared.answer.TermRefusal.TheVariants.{NoRate, NoPair, NoStrikeBelow, NoStrikeAbove, NoMoney, NoPut, NoCall, StripTooLarge}
+use Rattle.vx_term.specs.declared.answer.TermAnswer.{TermAnswer}
+use Rattle.vx_term.specs.declared.answer.TermAnswer.TheVariants.{Run, Refused, UndecidedForward}
+use Rattle.vx_term.specs.Runs.{ForwardSays, Says, RefusesRows, IsRunOfRows}
+use Rattle.vx_term.specs.Answer.{AtStandingRate, IsAnswerOfRows, IsTermAnswer}
+use Rattle.vx_term.specs.Exponential.{IsExpRun}
+use Rattle.vx_term.specs.Steps.{IsTold, IsUpTo, IsExponentialInRange}
+
+-- the row at the place has the level, and its strike is in range
+level_of_row : (P : ℕ) (rows : List StrikeRow) (place : ℕ) (told : Told P) (row : StrikeRow) → slice_get rows place ≡ Some row → told.k0 ≡ strike_at rows place → told.k0 ≡ row.strike
+level_of_row P rows place told row at is =
+    let listed = slice_get_within rows place row at in
+    is ∙ strike_at_read rows place listed ∙ ap (λ (r : StrikeRow). r.strike) (get_or_from_slice_get rows place row no_row at)
+
+strike_in_range : (rows : List StrikeRow) (place : ℕ) (row : StrikeRow) → AreLawfulRows rows → slice_get rows place ≡ Some row → IsStrikeInRange row.strike
+strike_in_range rows place row lawful at =
+    let one = subst IsLawfulRow (get_or_from_slice_get rows place row no_row at) (lawful.each place no_row (slice_get_within rows place row at)) in
+    (one.strike_min, one.strike_max)
+
+-- what the level is to the forward
+pub record IsLevelOfForward (P k : ℕ) (f : Ends) : Type 0 where
+  pub strike : IsStrikeInRange k
+  pub at_least : (pos k *ℤ unit P) ≤ℤ f.lo
+  pub at_most_twice : f.hi ≤ℤ (pos (2 * k) *ℤ unit P)
+
+row_is_level : (P : ℕ) (rows : List StrikeRow) (f : Ends) (place : ℕ) → AreLawfulRows rows → (row : StrikeRow) → IsLevelRow rows (printed_forward P f).0 (printed_forward P f).1 place row → ¬ HasNoneAbove rows row.strike → IsLevelOfForward P row.strike f
+row_is_level P rows f place lawful row h some =
+    let below = level_lies_below P rows f place row h in
+    let g = h.greatest in
+    let p = unit_positive P in
+    let none : (pos (2 * row.strike) *ℤ unit P) ≤ℤ f.hi → HasNoneAbove rows row.strike =
+    λ most other listed above.
+    let past = below.1 other listed above in
+    let more : pos (2 * row.strike) <ℤ pos other = mul_cancel_strict (pos (2 * row.strike)) (pos other) (unit P) p (omega (arith, ints)) in
+    omega (arith, ints) in
+    record {
+      strike = strike_in_range rows place row lawful g.is_at;
+      at_least = below.0;
+      at_most_twice = by_lt_z f.hi (pos (2 * row.strike) *ℤ unit P) (λ q. omega (arith, ints)) (λ most. absurd (some (none most)));
+    }
+
+pub told_is_level : (P : ℕ) (rows : List StrikeRow) (place : ℕ) (told : Told P) → AreLawfulRows rows → IsTold P rows place told → IsLevelOfForward P told.k0 told.f
+told_is_level P rows place told lawful h =
+    let said = h.tells in
+    let row = said.0 in
+    let is = said.1 in
+    let g = is.greatest in
+    let at_row = row_is_level P rows told.f place lawful row is said.2 in
+    subst (λ (k : ℕ). IsLevelOfForward P k told.f) (sym (level_of_row P rows place told row g.is_at h.level_is)) at_row
+
+-- an accepted sum is at most 2
+pub total_up_to : (P : ℕ) (entries : List StripEntry) (s : StripSum P) → IsSumOf P entries s → IsUpTo (pos 2 *ℤ unit P) s.total
+unfolding unit
+total_up_to P entries s h =
+    let e = h.total in
+    let a = h.accepted in
+    let lo = ap (λ (x : Ends). x.lo) e in
+    let hi = ap (λ (x : Ends). x.hi) e in
+    record { low = omega (arith, ints, lo); high = omega (arith, ints, hi, a) }
+
+-- ---- the closest pair is one of the rows'
+
+pub record IsPairInRange (p : Pair) : Type 0 where
+  pub strike : IsStrikeInRange p.strike
+  pub difference : nat_abs p.d ≤ HALF_MAX
+
+difference_small : (a b : ℕ) → a ≤ 10000000 → b ≤ 10000000 → nat_abs (pos a -ℤ pos b) ≤ 10000000
+difference_small a b h k = within (pos a -ℤ pos b) 10000000 (omega (arith, ints)) (omega (arith, ints))
+
+pub pair_in_range : (rows : List StrikeRow) (p : Pair) → AreLawfulRows rows → IsClosestPair rows p → IsPairInRange p
+pair_in_range rows p lawful h =
+    let found = row_of_pair rows p (in_from_contains (live_pairs rows) p h.among) in
+    let row = found.0 in
+    let one = all_in IsLawfulRow rows row lawful.each found.1 in
+    let put = one.put in
+    let call = one.call in
+    let at_row : IsPairInRange (pair_of row) = record { strike = (one.strike_min, one.strike_max); difference = difference_small row.call.half row.put.half call.in_range put.in_range } in
+    subst IsPairInRange found.2 at_row
+
+pub at_most_two : (P : ℕ) (e : Ends) → IsExponentialInRange P e → e.hi ≤ℤ (pos 2 *ℤ unit P)
+at_most_two P e h = let p = unit_positive P in let a = h.high in omega (arith, ints)
+
+-- the place of a level is a row's
+pub place_within : (P : ℕ) (rows : List StrikeRow) (f : Ends) (place : ℕ) → ForwardSays P rows f (level.At place) → place < length rows
+place_within P rows f place said = let row = said.0 in let is = said.1 in let g = is.greatest in slice_get_within rows place row g.is_at
+
+-- ---- the answer of a term is that of its rows at the rate that stands
+
+module _ (P : ℕ) (x : Expiry) (facts : TermFacts) (rate : ℤ) (exp : ExpRun P) (stands : facts.rate ≡ Some rate) (run : IsExpRun P (exponent rate facts.minutes) exp) where
+  refused : (refusal : TermRefusal) → RefusesRows P facts.rows exp.value refusal → AtStandingRate P facts (λ e. RefusesRows P facts.rows e refusal)
+  refused refusal h = (rate, stands, subst (λ (e : Ends). RefusesRows P facts.rows e refusal) run.value h)
+
+  of_rows : (a : TermAnswer P) → IsAnswerOfRows P x facts.minutes rate exp facts.rows a → IsTermAnswer P x facts a
+  of_rows (Run r) h =
+      let rates = sym h.rate_is in
+      let times = sym h.minutes_are in
+      let exps = sym h.exp_is in
+      let at_rate : IsExpRun P (exponent r.rate facts.minutes) exp = subst (λ (z : ℤ). IsExpRun P (exponent z facts.minutes) exp) rates run in
+      let at_time : IsExpRun P (exponent r.rate r.minutes) exp = subst (λ (m : ℕ). IsExpRun P (exponent r.rate m) exp) times at_rate in
+      record {
+        expiry_is = h.expiry_is;
+        minutes_are = h.minutes_are;
+        rate_stands = stands ∙ ap (λ (z : ℤ). Some z) rates;
+        exp_is = subst (λ (e : ExpRun P). IsExpRun P (exponent r.rate r.minutes) e) exps at_time;
+        numbers_are = subst (λ (e : ExpRun P). IsRunOfRows P facts.rows e.value r) exps h.numbers_are;
+      }
+  of_rows (Refused NoRate) h = absurd h
+  of_rows (Refused NoPair) h = refused NoPair h
+  of_rows (Refused NoStrikeBelow) h = refused NoStrikeBelow h
+  of_rows (Refused NoStrikeAbove) h = refused NoStrikeAbove h
+  of_rows (Refused NoMoney) h = refused NoMoney h
+  of_rows (Refused NoPut) h = refused NoPut h
+  of_rows (Refused NoCall) h = refused NoCall h
+  of_rows (Refused (StripTooLarge upper)) h = refused (StripTooLarge upper) h
+  of_rows (UndecidedForward strike lo hi) h = (rate, stands, subst (λ (e : Ends). Says P facts.rows e (level.Straddle strike lo hi)) run.value h)
+
+  pub term_from_rows : {E : Type 0} (result : Result (TermAnswer P) E) → IfOk result (IsAnswerOfRows P x facts.minutes rate exp facts.rows) → IfOk result (IsTermAnswer P x facts)
+  term_from_rows (Ok a) h = of_rows a h
+  term_from_rows (Err e) h = h
+
+-- ---- the exponential's run, at an exponent that the code has under casts
+
+pub exp_run_given : (P : ℕ) (p p' : ℤ) (q q' : ℕ) (run : ExpRun P) → p ≡ p' → q ≡ q' → IsTerms (low_term (2 ^ P) (nat_abs p) q) run.t_lo → IsTerms (high_term (2 ^ P) (nat_abs p) q) run.t_hi → run.value ≡ signed_ends P p q → IsExpRun P (record { top = p'; bottom = q' }) run
+exp_run_given P p p' q q' run top bottom low high value =
+    let fraction : ℤ → ℕ → Fraction = λ t b. record { top = t; bottom = b } in
+    let at : IsExpRun P (fraction p q) run = record { low_terms = low; high_terms = high; value = value } in
+    subst (λ (f : Fraction). IsExpRun P f run) (ap₂ fraction top bottom) at
+
+-- a rate that stands fits the code's type
+pub rate_given : (stood : Option ℤ) (rate : ℤ) → stood ≡ Some rate → IfSome stood IsRateInRange → to_z w32 (of_z w32 rate) ≡ rate
+rate_given stood rate is h =
+    let in_range : IsRateInRange rate = subst (λ (r : Option ℤ). IfSome r IsRateInRange) is h in
+    let small : nat_abs rate ≤ 25000000 = within rate 25000000 (omega (arith, ints, in_range.1)) (omega (arith, ints, in_range.0)) in
+    let fits : FitsSigned w32 rate = fits_signed_from_abs w32 rate (lt_of_le_of_lt small (lit< tt)) in
+    to_z-of_z fits
