@@ -8,3 +8,4 @@ pub mod Pushes
 pub mod NextSeries
 pub mod NextTables
 pub mod NextBook
+pub mod OverEvents

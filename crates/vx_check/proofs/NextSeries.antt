@@ -360,3 +360,9 @@ keeps_quoted time s bid ask events rows new_rows halves new_halves h sets =
     (ap (option_map (row_with_price s.side price)) row ∙ quoted_row x s.strike time bid ask events s.side)
     (ap (λ o. half_when_quoted s.side price o (item_at half_strike s.strike halves)) row ∙ ap (half_when_quoted s.side price (listed_row x events s.strike)) half
     ∙ quoted_half x s.strike time bid ask events s.side)
+
+-- the rows of the expiry after an event that says nothing of its series
+pub rows_as_before : (x : Expiry) (events : List Event) (e : Event) → ((k : ℕ) → IsQuietAt x k e) → listed_rows x (events ++ e ∷ []) ≡ listed_rows x events
+rows_as_before x events e quiet =
+    same_from_items row_strike 0 0 (listed_rows x (events ++ e ∷ [])) (listed_rows x events) (listed_rows_rise x (events ++ e ∷ [])) (listed_rows_rise x events)
+    (λ k. listed_item x (events ++ e ∷ []) k ∙ row_says x (events ++ e ∷ []) k _ _ _ _ (says_as_before x events e k (quiet k)) ∙ sym (listed_item x events k))

@@ -195,7 +195,7 @@ all_say_after old new events (event.Quote time s bid ask) lawful same h all =
 
 -- ---- the expiries of the tables
 
-nothing_more : {X : Type 0} (xs : List X) → xs ++ [] ≡ xs
+pub nothing_more : {X : Type 0} (xs : List X) → xs ++ [] ≡ xs
 nothing_more [] = refl
 nothing_more (x ∷ xs) = ap (λ l. x ∷ l) (nothing_more xs)
 

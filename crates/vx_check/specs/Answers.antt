@@ -1,5 +1,5 @@
 -- What the checker answers to a certificate over what its book keeps. This project's own.
-use Rattle.std.specs.Prelude.{◌≡◌, ℕ, pos, Some, IsTrue}
+use Rattle.std.specs.Prelude.{◌≡◌, ℕ, pos, List, Some, IsTrue}
 use Rattle.vx_clock.specs.declared.terms.Expiry.{Expiry}
 use Rattle.vx_cert.specs.declared.certificate.Pair.{Pair}
 use Rattle.vx_cert.specs.declared.certificate.CertBody.{CertBody}
@@ -7,7 +7,8 @@ use Rattle.vx_cert.specs.declared.certificate.CertBody.TheVariants.{K0}
 use Rattle.vx_cert.specs.declared.certificate.Certificate.{Certificate}
 use Rattle.vx_formula.specs.Pair.{IsClosestPair}
 use Rattle.vx_claims.specs.TermTests.{Test, A1, A2, A4, A7, A9, test_number, stated_pair, IsLevelOfEnds}
-use Rattle.vx_claims.specs.Accepts.{scale_of, zero_rate_forward, FirstFailing}
+use Rattle.vx_feed.specs.declared.events.Event.{Event}
+use Rattle.vx_claims.specs.Accepts.{scale_of, zero_rate_forward, FirstFailing, K0Meets}
 use Rattle.vx_check.specs.declared.book.PlainBook.{PlainBook}
 use Rattle.vx_check.specs.declared.check.Verdict.{Verdict}
 use Rattle.vx_check.specs.declared.check.Verdict.TheVariants.{Yes, No}
@@ -33,5 +34,15 @@ abbrev pub IsBodyVerdict : PlainBook → ℕ → ℕ → ℕ → CertBody → Ve
 IsBodyVerdict book version line time (K0 x pair k0) verdict = IsVerdict (LevelMeets book version line time x pair k0) verdict
 IsBodyVerdict book version line time _ verdict = verdict ≡ No 1
 
+-- the answer over what the book keeps
 abbrev pub IsAnswer : PlainBook → Certificate → Verdict → Type 0
 IsAnswer book c verdict = IsBodyVerdict book c.v c.line c.time c.body verdict
+
+-- the answer over a list of events: for kind k0 that of the first test which the events fail, if any; a kind that is not
+-- tested yet never gets a yes
+abbrev pub IsBodyAnswer : List Event → ℕ → ℕ → ℕ → CertBody → Verdict → Type 0
+IsBodyAnswer events version line time (K0 x pair k0) verdict = IsVerdict (K0Meets events version line time x pair k0) verdict
+IsBodyAnswer events version line time _ verdict = verdict ≡ No 1
+
+abbrev pub IsAnswerOver : List Event → Certificate → Verdict → Type 0
+IsAnswerOver events c verdict = IsBodyAnswer events c.v c.line c.time c.body verdict

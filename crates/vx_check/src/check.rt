@@ -1,9 +1,11 @@
-ghost use Rattle.std.specs.Prelude.{◌≡◌, ◌==◌};
+ghost use Rattle.std.specs.Prelude.{◌≡◌, ◌≤◌, ◌==◌, List, length};
 ghost use Rattle.std.specs.List.{list_any, list_all};
+ghost use Rattle.vx_feed.specs.declared.events.Event.{Event};
 ghost use Rattle.vx_feed.specs.Same.{is_same_expiry};
 ghost use Rattle.vx_formula.specs.Pair.{pair_of, is_both_live};
 ghost use Rattle.vx_check.specs.Kept.{is_kept};
-ghost use Rattle.vx_check.specs.Answers.{IsAnswer};
+ghost use Rattle.vx_check.specs.Answers.{IsAnswer, IsAnswerOver};
+ghost use Rattle.vx_check.specs.StandsFor.{StandsFor};
 ghost use Rattle.vx_check.specs.LevelTests.{is_tick_at, has_zero_rate, expiry_verdict, first_failing, is_pair_of_row, is_as_close, is_closest, zero_rate_forward, is_other_above, is_level, level_verdict};
 
 use crate::book::PlainBook;
@@ -23,10 +25,11 @@ pub fn is_tested(c: &Certificate) -> bool {
     matches!(c.body, CertBody::K0 { .. })
 }
 
-/// Tests a certificate over the events pushed so far, the last of which stands at its feed line. A kind
-/// that is not tested yet gets `No(1)` and never a yes: ask `is_tested` first.
+/// Tests a certificate over the events pushed so far. They reach its feed line at most: over more of them
+/// it would get `No(1)`. A kind that is not tested yet gets `No(1)` and never a yes: ask `is_tested` first.
 pub fn check_cert(events: &PlainBook, c: &Certificate) -> Verdict
-    ensures { IsAnswer events.now c.now result }
+    ensures kept { IsAnswer events.now c.now result }
+    ensures answer { (pushed : List Event) → StandsFor events.now pushed → length pushed ≤ c.now.line → IsAnswerOver pushed c.now result }
 {
     match &c.body {
         CertBody::K0 { expiry, pair, k0 } => {
