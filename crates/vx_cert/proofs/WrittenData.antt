@@ -1,8 +1,12 @@
--- The value of JSON that a certificate is written as has no float.
-use Rattle.std.proofs.Common.{◌≡◌, ℕ, false, List, [], ◌∷◌, map, ℤ, pos, negsuc, refl}
+-- The value of JSON that a certificate is written as has no float, and is not deep; so its text is read
+-- as that value.
+use Rattle.std.proofs.Common.{◌≡◌, ℕ, false, List, [], ◌∷◌, map, ℤ, pos, negsuc, ◌≤◌, OnOk, Result, Ok, Err, refl, sym, subst, arith}
+use Rattle.serde_json.specs.Data.{Data, depth, items_depth}
+use Rattle.serde_json.specs.Read.{max_depth}
 use Rattle.serde_json.specs.Find.{of_integer, is_float}
 use Rattle.serde_json.specs.View.{items_of}
-use Rattle.serde_json.specs.Written.{has_float, items_have_float}
+use Rattle.serde_json.specs.Written.{has_float, items_have_float, compact_text}
+use Rattle.vx_cert.specs.Reading.{IsValueOf}
 use Rattle.vx_cert.specs.declared.certificate.CertTerm.{CertTerm}
 use Rattle.vx_cert.specs.declared.certificate.CertBody.{CertBody}
 use Rattle.vx_cert.specs.declared.certificate.CertBody.TheVariants.{K0, Single, Index, Soq}
@@ -34,3 +38,36 @@ by_kind c (Soq term figure) = rw (term_has_none term) refl
 
 pub certificate_has_no_float : (c : Certificate) → has_float (certificate_data c) ≡ false
 certificate_has_no_float c = by_kind c c.body
+
+-- ---- how deep the value is
+
+terms_are_flat : (terms : List ℕ) → items_depth (items_of (map (λ term. wide_number (pos term)) terms)) ≤ 0
+terms_are_flat [] = omega arith
+terms_are_flat (term ∷ terms) = let rest = terms_are_flat terms in grind arith
+
+rows_are_flat : (rows : List CertRow) → items_depth (items_of (map row_data rows)) ≤ 1
+rows_are_flat [] = omega arith
+rows_are_flat (row ∷ rows) = let rest = rows_are_flat rows in grind arith
+
+term_depth : (term : CertTerm) → depth (term_data term) ≤ 3
+term_depth term =
+    let low = terms_are_flat term.t_lo in let high = terms_are_flat term.t_hi in let rows = rows_are_flat term.rows in
+    grind arith
+
+kind_depth : (c : Certificate) (body : CertBody) → depth (data_by_kind c body) ≤ 4
+kind_depth c (K0 expiry pair k0) = omega arith
+kind_depth c (Single term figure) = let inner = term_depth term in grind arith
+kind_depth c (Index days near next figure) = let first = term_depth near in let second = term_depth next in grind arith
+kind_depth c (Soq term figure) = let inner = term_depth term in grind arith
+
+certificate_depth : (c : Certificate) → depth (certificate_data c) ≤ max_depth
+certificate_depth c = let most = kind_depth c c.body in omega arith
+
+-- what is read of the text of a value that is a certificate's
+pub valued : (c : Certificate) (bytes : List ℕ) (d : Data) → d ≡ certificate_data c → bytes ≡ compact_text d → (depth d ≤ max_depth → IsValueOf bytes d) → IsValueOf (compact_text (certificate_data c)) (certificate_data c)
+valued c bytes d e t h =
+    subst (λ x. IsValueOf (compact_text x) x) e (subst (λ b. IsValueOf b d) t (h (subst (λ x. depth x ≤ max_depth) (sym e) (certificate_depth c))))
+
+pub on_ok : {T E X : Type 0} (r : Result T E) → X → OnOk r X
+on_ok (Ok t) x = x
+on_ok (Err e) x = tt

@@ -1,10 +1,13 @@
 //! Writing a certificate as a line of JSON.
 
 ghost use Rattle.std.specs.Prelude.{◌≡◌, ◌≤◌, [], ◌∷◌, ◌++◌, false, IfOk, OnErr, OnOk, string_bytes};
+ghost use Rattle.serde_json.specs.Data.{depth};
+ghost use Rattle.serde_json.specs.Read.{max_depth};
 ghost use Rattle.serde_json.specs.View.{view};
 ghost use Rattle.serde_json.specs.Written.{compact_text, has_float};
 ghost use Rattle.vx_clock.specs.declared.limits.TheConstants.{MINUTE_MAX};
 ghost use Rattle.vx_cert.specs.Ranges.{IsCertificateInRange, IsExpiryInRange, IsTermInRange};
+ghost use Rattle.vx_cert.specs.Reading.{IsValueOf};
 ghost use Rattle.vx_cert.specs.Written.{certificate_data, certificate_text, data_by_kind, level_data, one_term_data, index_data, index_of_data, term_data};
 
 use crate::certificate::{CertBody, CertFigure, CertTerm, Certificate, Pair};
@@ -16,7 +19,7 @@ use vx_clock::Expiry;
 use vx_num::NoMemory;
 
 /// Appends the line of a certificate: one object of JSON with no space and its keys in byte order,
-/// and LF. [`crate::read_cert`] reads it back.
+/// and LF. Without its LF the line is JSON, and is read as the value that was written.
 ///
 /// # Errors
 ///
@@ -25,6 +28,7 @@ pub fn write_cert(alloc: Global, c: &Certificate, out: &mut Vec<u8>) -> Result<(
     requires { IsCertificateInRange c.now }
     ensures written { OnOk result (out.new.items ≡ out.old.items ++ certificate_text c.now) }
     ensures refused { OnErr result (out.new.items ≡ out.old.items) }
+    ensures value { OnOk result (IsValueOf (compact_text (certificate_data c.now)) (certificate_data c.now)) }
 {
     let line = line_of(alloc, c)?;
     out.extend_from_slice(line.as_bytes()).map_err(|_| NoMemory)
@@ -33,7 +37,8 @@ pub fn write_cert(alloc: Global, c: &Certificate, out: &mut Vec<u8>) -> Result<(
 /// The line of a certificate, with its LF.
 fn line_of(alloc: Global, c: &Certificate) -> Result<String, NoMemory>
     requires { IsCertificateInRange c.now }
-    ensures { IfOk result (λ line. string_bytes line ≡ certificate_text c.now) }
+    ensures line { IfOk result (λ line. string_bytes line ≡ certificate_text c.now) }
+    ensures value { OnOk result (IsValueOf (compact_text (certificate_data c.now)) (certificate_data c.now)) }
 {
     let value = certificate(alloc, c)?;
     let text = text_of(alloc, &value)?;
@@ -42,9 +47,14 @@ fn line_of(alloc: Global, c: &Certificate) -> Result<String, NoMemory>
 
 fn text_of(alloc: Global, value: &Value) -> Result<String, NoMemory>
     requires { has_float (view value.now) ≡ false }
-    ensures { IfOk result (λ text. string_bytes text ≡ compact_text (view value.now)) }
+    ensures text { IfOk result (λ text. string_bytes text ≡ compact_text (view value.now)) }
+    ensures value { IfOk result (λ text. depth (view value.now) ≤ max_depth
+        → IsValueOf (string_bytes text) (view value.now)) }
 {
-    value.to_string(alloc).map_err(|_| NoMemory)
+    match value.to_string(alloc) {
+        Ok(text) => Ok(text),
+        Err(_) => Err(NoMemory),
+    }
 }
 
 fn ended(text: String) -> Result<String, NoMemory>
