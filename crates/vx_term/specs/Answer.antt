@@ -56,3 +56,9 @@ abbrev pub IsAnswerOfRows : (P : ℕ) → Expiry → ℕ → ℤ → ExpRun P �
 IsAnswerOfRows P x minutes rate exp rows (Run run) = IsRunFrom P x minutes rate exp rows run
 IsAnswerOfRows P x minutes rate exp rows (Refused refusal) = RefusesRows P rows exp.value refusal
 IsAnswerOfRows P x minutes rate exp rows (UndecidedForward strike lo hi) = Says P rows exp.value (level.Straddle strike lo hi)
+
+-- Q holds of the run, where the answer is one
+abbrev pub OnRun : (P : ℕ) → (TermRun P → Type 0) → TermAnswer P → Type 0
+OnRun P Q (Run run) = Q run
+OnRun P Q (Refused refusal) = Unit {0}
+OnRun P Q (UndecidedForward strike lo hi) = Unit {0}

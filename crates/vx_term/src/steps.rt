@@ -8,8 +8,8 @@ ghost use Rattle.vx_interval.specs.Ends.{IsInterval, unit};
 ghost use Rattle.vx_interval.specs.Membership.{IsMember};
 ghost use Rattle.vx_strip.specs.Entries.{IsStripInRange, IsStripOf};
 ghost use Rattle.vx_strip.specs.Refusals.{HasNoStripRefusal};
-ghost use Rattle.vx_term.specs.Answer.{IsAnswerOfRows};
-ghost use Rattle.vx_term.specs.Steps.{IsExponentialInRange, IsTold, IsUpTo};
+ghost use Rattle.vx_term.specs.Answer.{IsAnswerOfRows, OnRun};
+ghost use Rattle.vx_term.specs.Steps.{IsExponentialInRange, IsRunInRange, IsTold, IsUpTo};
 ghost use Rattle.vx_term.specs.Variance.{excess_ends, variance_ends};
 
 use crate::answer::{TermAnswer, TermRefusal, TermRun};
@@ -95,6 +95,7 @@ fn run_of<const P: u32>(told: Told<P>, strip: Strip, sum: StripSum<P>) -> TermRu
     ensures sum { result.sum ≡ sum.entry }
     ensures excess { result.g ≡ excess_ends P told.entry.k0 told.entry.f }
     ensures variance { result.w ≡ variance_ends P told.entry.exp.value sum.entry.total result.g }
+    ensures in_range { IsRunInRange P result }
 {
     let g = excess_of(&told.f, told.k0);
     let w = variance_of(&told.exp.value, &sum.total, &g);
@@ -127,8 +128,9 @@ fn with_strip<const P: u32>(
     requires strip { IsStripOf term.now.rows.now told.k0 strip }
     requires none_refuses { HasNoStripRefusal term.now.rows.now told.k0 }
     requires in_range { IsStripInRange strip }
-    ensures { IfOk result
+    ensures answer { IfOk result
         (IsAnswerOfRows P told.entry.expiry told.entry.minutes told.entry.rate told.entry.exp term.now.rows.now) }
+    ensures in_range { IfOk result (OnRun P (IsRunInRange P)) }
 {
     let low = told.f.lo();
     prove!(low <= told.f.hi());
@@ -151,8 +153,9 @@ pub fn at_level<const P: u32>(
     requires lawful { IsLawfulTerm term.now }
     requires told { IsTold P term.now.rows.now place told }
     requires exponential { IsExponentialInRange P told.exp.value }
-    ensures { IfOk result
+    ensures answer { IfOk result
         (IsAnswerOfRows P told.entry.expiry told.entry.minutes told.entry.rate told.entry.exp term.now.rows.now) }
+    ensures in_range { IfOk result (OnRun P (IsRunInRange P)) }
 {
     match select(alloc, term, place) {
         Ok(strip) => with_strip(alloc, term, place, told, strip),

@@ -9,10 +9,10 @@ ghost use Rattle.vx_formula.specs.Pair.{IsClosestPair};
 ghost use Rattle.vx_forward.specs.Pairs.{formula_pair};
 ghost use Rattle.vx_formula.specs.Term.{TermFacts, exponent};
 ghost use Rattle.vx_strip.specs.Entries.{strike_at};
-ghost use Rattle.vx_term.specs.Answer.{IsAnswerOfRows, IsTermAnswer};
+ghost use Rattle.vx_term.specs.Answer.{IsAnswerOfRows, IsTermAnswer, OnRun};
 ghost use Rattle.vx_term.specs.Exponential.{IsExpRun};
 ghost use Rattle.vx_term.specs.Ranges.{AreMinutesInRange};
-ghost use Rattle.vx_term.specs.Steps.{IsExponentialInRange};
+ghost use Rattle.vx_term.specs.Steps.{IsExponentialInRange, IsRunInRange};
 
 use crate::answer::{TermAnswer, TermRefusal};
 use crate::steps::{Told, at_level};
@@ -38,8 +38,9 @@ pub fn term_variance<const P: u32>(
     requires scale { IsScale P }
     requires lawful { IsLawfulTerm term.now }
     requires minutes { AreMinutesInRange minutes }
-    ensures { let facts : TermFacts = record { rows = term.now.rows.now; rate = term.now.rate; minutes = minutes } in
+    ensures answer { let facts : TermFacts = record { rows = term.now.rows.now; rate = term.now.rate; minutes = minutes } in
         IfOk result (IsTermAnswer P term.now.expiry facts) }
+    ensures in_range { IfOk result (OnRun P (IsRunInRange P)) }
 {
     match term.rate {
         None => Ok(TermAnswer::Refused(TermRefusal::NoRate)),
@@ -64,8 +65,9 @@ pub fn variance_with<const P: u32>(
     requires lawful { IsLawfulTerm term.now }
     requires minutes { AreMinutesInRange minutes }
     requires exponential { IsExponentialInRange P exp.value }
-    ensures { IfOk result
+    ensures answer { IfOk result
         (IsAnswerOfRows P term.now.expiry minutes rate exp.entry term.now.rows.now) }
+    ensures in_range { IfOk result (OnRun P (IsRunInRange P)) }
 {
     match closest(term) {
         None => Ok(TermAnswer::Refused(TermRefusal::NoPair)),
@@ -85,8 +87,9 @@ fn at_pair<const P: u32>(
     requires lawful { IsLawfulTerm term.now }
     requires exponential { IsExponentialInRange P exp.value }
     requires pair { IsClosestPair term.now.rows.now (formula_pair pair) }
-    ensures { IfOk result
+    ensures answer { IfOk result
         (IsAnswerOfRows P term.now.expiry minutes rate exp.entry term.now.rows.now) }
+    ensures in_range { IfOk result (OnRun P (IsRunInRange P)) }
 {
     let expiry = term.expiry;
     let f = forward(&pair, &exp.value);

@@ -33,7 +33,7 @@ at_level-requires g c = (
   ),
 )
 
-pub returns-in-At : goal.returns-in-At
-returns-in-At g c =
+pub returns-in-At-clause-answer : goal.returns-in-At-clause-answer
+returns-in-At-clause-answer g c =
     subst (λ (rate : ℤ). IfOk c.at_level.result (IsAnswerOfRows g.row.P c.args.term.now.expiry c.args.minutes rate c.args.exp c.args.term.now.rows.now))
-    (to_z-of_z c.ranges.rate) c.at_level.ensures
+    (to_z-of_z c.ranges.rate) c.at_level.ensures.answer
