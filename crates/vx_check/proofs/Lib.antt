@@ -9,3 +9,4 @@ pub mod NextSeries
 pub mod NextTables
 pub mod NextBook
 pub mod OverEvents
+pub mod Sound

@@ -2,6 +2,10 @@ ghost use Rattle.std.specs.Prelude.{◌≡◌, ◌≤◌, ◌==◌, List, length
 ghost use Rattle.std.specs.List.{list_any, list_all};
 ghost use Rattle.vx_feed.specs.declared.events.Event.{Event};
 ghost use Rattle.vx_feed.specs.Same.{is_same_expiry};
+ghost use Rattle.vx_feed.specs.Order.{AreLawful};
+ghost use Rattle.vx_claims.specs.Accepts.{IsVersion};
+ghost use Rattle.vx_claims.specs.Means.{Means};
+ghost use Rattle.vx_check.specs.declared.check.Verdict.TheVariants.{Yes};
 ghost use Rattle.vx_formula.specs.Pair.{pair_of, is_both_live};
 ghost use Rattle.vx_check.specs.Kept.{is_kept};
 ghost use Rattle.vx_check.specs.Answers.{IsAnswer, IsAnswerOver};
@@ -30,6 +34,7 @@ pub fn is_tested(c: &Certificate) -> bool {
 pub fn check_cert(events: &PlainBook, c: &Certificate) -> Verdict
     ensures kept { IsAnswer events.now c.now result }
     ensures answer { (pushed : List Event) → StandsFor events.now pushed → length pushed ≤ c.now.line → IsAnswerOver pushed c.now result }
+    ensures sound { (pushed : List Event) → StandsFor events.now pushed → length pushed ≤ c.now.line → AreLawful pushed → IsVersion c.now.v → result ≡ Yes → Means pushed c.now }
 {
     match &c.body {
         CertBody::K0 { expiry, pair, k0 } => {
