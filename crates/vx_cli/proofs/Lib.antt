@@ -3,3 +3,7 @@ mod ExitLemmas
 mod FailureLemmas
 mod OperandLemmas
 mod RequestLemmas
+-- what is written is one
+mod CheckIsOne
+mod ReplayIsOne
+mod SettleIsOne

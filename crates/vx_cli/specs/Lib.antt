@@ -5,6 +5,7 @@ pub mod ExitText
 pub mod DrillText
 pub mod Exits
 pub mod Failures
+pub mod Laws
 pub mod Operands
 pub mod OutputLines
 pub mod Reading

@@ -8,6 +8,7 @@ mod complaint;
 mod devices;
 mod exit;
 mod feed;
+mod laws;
 pub mod limits;
 mod lines;
 mod operands;
@@ -17,4 +18,5 @@ mod text;
 
 pub use complaint::exit_line;
 pub use exit::{Exit, FeedCause, LineCause, PositionCause};
+pub use laws::{check_is_one, drill_is_one, replay_is_one, settle_is_one};
 pub use program::run;

@@ -1,0 +1,23 @@
+//! Laws of what the commands write. Each function does nothing: its clause is the law.
+
+ghost use Rattle.vx_cli.specs.Laws.{CheckIsOne, DrillIsOne, ReplayIsOne, SettleIsOne};
+
+/// What `check` answers, and where its run ends, is a function of the feed and the certificates.
+pub fn check_is_one()
+    ensures { CheckIsOne }
+{}
+
+/// What `replay` writes is a function of the feed.
+pub fn replay_is_one()
+    ensures { ReplayIsOne }
+{}
+
+/// What `settle` writes is a function of the feed and the positions.
+pub fn settle_is_one()
+    ensures { SettleIsOne }
+{}
+
+/// What `drill` writes is a function of the sample feed's number and of its ticks.
+pub fn drill_is_one()
+    ensures { DrillIsOne }
+{}
