@@ -9,16 +9,15 @@ use Rattle.vx_feed.specs.Feed.{BadLine, lawful_prefix, bad_line}
 use Rattle.vx_cert.specs.declared.certificate.Certificate.{Certificate}
 use Rattle.vx_cert.specs.declared.fault.CertFault.{CertFault}
 use Rattle.vx_cert.specs.declared.fault.CertFault.TheVariants.{NoMemory, Syntax, Field}
-use Rattle.vx_cert.specs.Reading.{IsValueOf, ReadsAs, certificate_of}
+use Rattle.vx_cert.specs.Reading.{ReadsAs, certificate_of}
 use Rattle.vx_claims.specs.TermTests.{Test, test_number}
 use Rattle.vx_claims.specs.Accepts.{Accepts, Meets, FirstFailing}
 use Rattle.vx_claims.proofs.FailingLemmas.{failing_test_is_one, accepted_has_no_failing_test}
 use Rattle.vx_cli.specs.declared.answer.Answer.{Answer}
 use Rattle.vx_cli.specs.declared.answer.Answer.TheVariants.{Yes, No}
-use Rattle.vx_cli.specs.declared.answer.Figure.{Figure}
 use Rattle.vx_cli.specs.declared.answer.Reason.TheVariants as reason
 use Rattle.vx_cli.specs.declared.exit.LineCause.{LineCause}
-use Rattle.vx_cli.specs.CheckRuns.{CheckRun, stated_figure, IsVerdict, ends_at, answers_then, end_of_feed, at_certificate_line, certificates_end, meets_bad_line, line_cause, GoesOn, ChecksCertificate, ChecksReadable, ChecksLine, ChecksPiece, ChecksPieces, Checks}
+use Rattle.vx_cli.specs.CheckRuns.{CheckRun, stated_figure, IsVerdict, answers_then, meets_bad_line, line_cause, GoesOn, ChecksCertificate, ChecksReadable, ChecksLine, ChecksPiece, ChecksPieces, Checks}
 
 -- ---- what a line is read as is one
 

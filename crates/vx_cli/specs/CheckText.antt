@@ -1,5 +1,5 @@
 -- The output lines of `check`. Each line ends with LF (10). This project's own format.
-use Rattle.std.specs.Prelude.{ℕ, ◌+◌, ◌/◌, ◌%◌, [], ◌∷◌, ◌++◌, codes}
+use Rattle.std.specs.Prelude.{ℕ, [], ◌∷◌, ◌++◌, codes}
 use Rattle.vx_num.specs.Written.{decimal_text}
 use Rattle.vx_clock.specs.Clock.{clock_text}
 use Rattle.vx_cli.specs.ExitText.{Text, field_word}

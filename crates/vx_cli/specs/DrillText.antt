@@ -1,5 +1,5 @@
 -- What `drill` writes: how the ticks of a sample feed are answered. This project's own format.
-use Rattle.std.specs.Prelude.{◌≡◌, ℕ, List, [], ◌∷◌, length, codes}
+use Rattle.std.specs.Prelude.{◌≡◌, ℕ, List, ◌∷◌, length, codes}
 use Rattle.vx_clock.specs.declared.limits.TheConstants.{INDEX_DAYS, INDEX_WINDOW}
 use Rattle.vx_make.specs.Feed.{make_events}
 use Rattle.vx_cli.specs.ExitText.{Text}

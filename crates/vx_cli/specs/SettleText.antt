@@ -1,6 +1,6 @@
 -- What `settle` writes: the opening figure, and what each position settles to. This project's own format.
-use Rattle.std.specs.Prelude.{◌≡◌, ℕ, ◌+◌, ◌≤◌, ◌==◌, nat_lt, ℤ, pos, List, [], ◌∷◌, ◌++◌, map, length, codes, Option, Some, None, Result, Ok, Err, if◌then◌else◌}
-use Rattle.std.specs.List.{concat, slice_split}
+use Rattle.std.specs.Prelude.{◌≡◌, ℕ, ◌+◌, ◌==◌, nat_lt, ℤ, pos, List, [], ◌∷◌, ◌++◌, length, codes, Option, Some, None, Result, Ok, Err, if◌then◌else◌}
+use Rattle.std.specs.List.{slice_split}
 use Rattle.vx_fields.specs.Lines.{line_feed}
 use Rattle.vx_clock.specs.Clock.{clock_text}
 use Rattle.vx_feed.specs.Feed.{lawful_prefix, bad_line}
