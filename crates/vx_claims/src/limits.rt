@@ -13,10 +13,10 @@ pub const FORWARD_BITS: u32 = vx_formula::limits::FORWARD_BITS;
 pub const EXCESS_MAX: u32 = 2;
 
 /// The greatest variance, in absolute value, that a certificate may state.
-pub const VARIANCE_MAX: u32 = 6;
+pub const VARIANCE_MAX: u32 = vx_formula::limits::VARIANCE_MAX;
 
 /// The greatest square of the index over 100, in absolute value, that a certificate may state.
-pub const SQUARE_MAX: u32 = 1024;
+pub const SQUARE_MAX: u32 = vx_formula::limits::SQUARE_MAX;
 
 /// The greatest end of an index that a certificate may state, in millionths of a point.
 pub const INDEX_END_MAX: u64 = 3_200_000_000;

@@ -16,6 +16,12 @@ pub const FORWARD_UNITS: u32 = 1_000_000_000;
 /// scale `P`.
 pub const FORWARD_BITS: u32 = 27;
 
+/// The greatest variance times its term's time, in absolute value, that is computed or stated.
+pub const VARIANCE_MAX: u32 = 6;
+
+/// The greatest square of the index over 100, in absolute value, that is computed or stated.
+pub const SQUARE_MAX: u32 = 1024;
+
 /// A cent, a hundredth of an index point, in millionths of a point.
 pub const CENT: u32 = 10_000;
 

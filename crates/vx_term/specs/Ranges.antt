@@ -2,7 +2,7 @@
 use Rattle.std.specs.Prelude.{ℕ, ◌+◌, ◌*◌, ◌-◌, ◌≤◌, ℤ, pos, neg_ℤ, nat_abs, ◌-ℤ◌, ◌*ℤ◌, ◌≤ℤ◌}
 use Rattle.vx_clock.specs.declared.limits.TheConstants.{MINUTES_MIN, MINUTES_MAX, FIGURE_DAYS_MIN, FIGURE_DAYS_MAX}
 use Rattle.vx_interval.specs.Ends.{Ends, unit}
-use Rattle.vx_term.specs.declared.limits.TheConstants.{VARIANCE_MAX, SQUARE_MAX}
+use Rattle.vx_formula.specs.declared.limits.TheConstants.{VARIANCE_MAX, SQUARE_MAX}
 
 -- both ends are within so many units in absolute value
 pub record IsWithin (limit : ℤ) (x : Ends) : Type 0 where

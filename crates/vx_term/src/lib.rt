@@ -8,7 +8,6 @@
 mod answer;
 mod index;
 mod laws;
-pub mod limits;
 mod steps;
 mod variance;
 
