@@ -1,7 +1,12 @@
 -- The words of a command line, those after the program's name. The command forms are this project's own.
-use Rattle.std.specs.Prelude.{◌==◌, ℕ, Bool, false, not, List, [], ◌∷◌, Option, Some, None, codes, if◌then◌else◌, option_map, option_and_then}
+use Rattle.std.specs.Prelude.{◌==◌, ◌-◌, ℕ, Bool, false, not, List, [], ◌∷◌, Option, Some, None, codes, if◌then◌else◌, option_map, option_and_then}
 use Rattle.std.specs.List.{list_all}
+use Rattle.std.specs.Option.{option_zip}
+use Rattle.std.specs.Result.{result_ok}
 use Rattle.std.specs.Str.{bytes_eq}
+use Rattle.vx_num.specs.Decimal.{decimal_of}
+use Rattle.vx_feed.specs.Form.{if_positive}
+use Rattle.vx_make.specs.declared.limits.TheConstants.{STATES, TICKS_MAX}
 
 abbrev pub Text : Type 0
 Text = List ℕ
@@ -16,9 +21,11 @@ abbrev pub two_of : List Text → Option (Text × Text)
 two_of (first ∷ second ∷ []) = Some (first, second)
 two_of _ = None
 
--- what a command line asks for, with the names of its files
+-- what a command line asks for: `check` with the names of its files, `make` with the number and the ticks
+-- of a sample feed
 pub data Command : Type 0 where
   check : Text → Text → Command
+  make : ℕ → ℕ → Command
 
 -- no file is named twice
 abbrev pub two_files : Text × Text → Option (Text × Text)
@@ -28,9 +35,27 @@ two_files files = if bytes_eq files.0 files.1 then None else Some files
 abbrev pub check_form : List Text → Option Command
 check_form operands = option_map (λ files. check files.0 files.1) (option_and_then two_files (two_of operands))
 
+-- the number of a sample feed: a state of the generator, in digits
+abbrev pub number_of : Text → Option ℕ
+number_of text = result_ok (decimal_of text 0 (STATES - 1))
+
+-- how many ticks a sample feed has: at least one, in digits
+abbrev pub ticks_of : Text → Option ℕ
+ticks_of text = if_positive (result_ok (decimal_of text 0 TICKS_MAX))
+
+abbrev pub sample_of : Text × Text → Option (ℕ × ℕ)
+sample_of texts = option_zip (number_of texts.0) (ticks_of texts.1)
+
+-- `make NUMBER TICKS`
+abbrev pub make_form : List Text → Option Command
+make_form operands = option_map (λ sample. make sample.0 sample.1) (option_and_then sample_of (two_of operands))
+
 -- the form that a command's name asks for
 abbrev pub named_form : Text → List Text → Option Command
-named_form name operands = if bytes_eq name (codes "check") then check_form operands else None
+named_form name operands =
+    if bytes_eq name (codes "check") then check_form operands
+    else if bytes_eq name (codes "make") then make_form operands
+    else None
 
 abbrev pub form_of : List Text → Option Command
 form_of [] = None

@@ -11,6 +11,7 @@ mod feed;
 mod laws;
 pub mod limits;
 mod lines;
+mod make;
 mod operands;
 mod program;
 mod request;

@@ -3,11 +3,12 @@ ghost use Rattle.vx_desk.specs.Told.{OnlyOutIsOpen, Told};
 ghost use Rattle.vx_desk.specs.declared.device.Slot.{Slot};
 ghost use Rattle.vx_cli.specs.Exits.{IsStop, IsWithoutNoMemory};
 ghost use Rattle.vx_cli.specs.Failures.{Failures, StepFailures, failed_calls};
-ghost use Rattle.vx_cli.specs.Runs.{OpensFor, SaysSomeNo, said_exit};
+ghost use Rattle.vx_cli.specs.Runs.{OpensFor, SaysSomeNo, SendsFor, said_exit};
 ghost use Rattle.vx_cli.specs.Words.{command_of};
 
 use crate::check::check_certificates;
 use crate::exit::Exit;
+use crate::make::send_sample;
 use crate::request::{Request, read_request};
 use std::alloc::Global;
 use vx_desk::Desk;
@@ -33,7 +34,8 @@ fn outcome(checked: Result<u64, Exit>) -> Exit
 
 /// Runs the command that the words ask for, those after the program's name.
 ///
-/// Today it runs `check FEED CERTS`; the words of every other command are answered with `Usage`.
+/// Today it runs `check FEED CERTS` and `make NUMBER TICKS`; the words of every other command are
+/// answered with `Usage`.
 pub fn run<D: Desk>(alloc: Global, words: &[String], desk: &mut D) -> Exit
     requires closed { OnlyOutIsOpen (D.told desk.old) }
     // Usage comes exactly by the words, save that want of memory may come in its place.
@@ -45,11 +47,14 @@ pub fn run<D: Desk>(alloc: Global, words: &[String], desk: &mut D) -> Exit
     ensures causes { IsWithoutNoMemory result }
     ensures some_no { SaysSomeNo result }
     ensures opens { OpensFor (command_of (map string_bytes words.now)) (D.told desk.new) }
+    // What `make` sends is exact, and words that are no command form send nothing.
+    ensures sends { SendsFor (command_of (map string_bytes words.now)) (D.told desk.old Slot.Out) (D.told desk.new Slot.Out) result }
 {
     match read_request(alloc, words) {
         Ok(Some(Request::Check { feed, certs })) => outcome(check_certificates(
             alloc, desk, feed, certs,
         )),
+        Ok(Some(Request::Make { number, ticks })) => send_sample(alloc, desk, number, ticks),
         Ok(None) => Exit::Usage,
         Err(NoMemory) => Exit::NoMemory,
     }

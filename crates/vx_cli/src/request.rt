@@ -1,17 +1,20 @@
-ghost use Rattle.std.specs.Prelude.{◌≡◌, true, IfOk, map, option_map, string_bytes};
+ghost use Rattle.std.specs.Prelude.{◌≡◌, ◌<◌, ◌≤◌, true, IfOk, IfSome, map, option_map, string_bytes};
 ghost use Rattle.std.specs.List.{list_all};
-ghost use Rattle.vx_cli.specs.Requests.{asked};
-ghost use Rattle.vx_cli.specs.Words.{check_form, command_of, is_plain_word};
+ghost use Rattle.vx_cli.specs.Requests.{IsInRange, asked};
+ghost use Rattle.vx_cli.specs.Words.{check_form, command_of, is_plain_word, make_form, named_form, number_of, ticks_of};
 
 use crate::operands::two_operands;
 use std::alloc::Global;
-use vx_num::NoMemory;
+use vx_make::limits::{STATES, TICKS_MAX};
+use vx_num::{NoMemory, read_decimal};
 
 /// What a command line asks for.
 #[derive(Clone, Copy)]
 pub(crate) enum Request<'a> {
     /// Answer each certificate line over a feed.
     Check { feed: &'a str, certs: &'a str },
+    /// Send the sample feed of a number below 2^31, with so many ticks, 1 to 390.
+    Make { number: u32, ticks: u32 },
 }
 
 /// Whether a word is not empty and does not begin with `-`.
@@ -34,7 +37,8 @@ fn are_plain(words: &[String]) -> bool
 /// Reads the operands of `check`.
 fn read_check<'a>(alloc: Global, operands: &'a [String]) -> Result<Option<Request<'a>>, NoMemory>
     requires { list_all is_plain_word (map string_bytes operands.now) ≡ true }
-    ensures { IfOk result (λ r. option_map asked r ≡ check_form (map string_bytes operands.now)) }
+    ensures asked { IfOk result (λ r. option_map asked r ≡ check_form (map string_bytes operands.now)) }
+    ensures in_range { IfOk result (λ r. IfSome r IsInRange) }
 {
     let Some((feed, certs)) = two_operands(alloc, operands)? else {
         return Ok(None);
@@ -45,12 +49,71 @@ fn read_check<'a>(alloc: Global, operands: &'a [String]) -> Result<Option<Reques
     Ok(Some(Request::Check { feed, certs }))
 }
 
+/// Reads the number of a sample feed.
+fn read_number(word: &str) -> Option<u32>
+    ensures value { result ≡ number_of word.now }
+    ensures in_range { IfSome result (λ number. number < STATES) }
+{
+    let number = read_decimal(word.as_bytes(), 0, u64::from(STATES - 1)).ok()?;
+    Some(number as u32)
+}
+
+/// Reads how many ticks a sample feed has.
+fn read_ticks(word: &str) -> Option<u32>
+    ensures value { result ≡ ticks_of word.now }
+    ensures in_range { IfSome result (λ ticks. (1 ≤ ticks) × (ticks ≤ TICKS_MAX)) }
+{
+    let ticks = read_decimal(word.as_bytes(), 0, u64::from(TICKS_MAX)).ok()?;
+    if ticks < 1 {
+        return None;
+    }
+    Some(ticks as u32)
+}
+
+/// Reads the operands of `make`.
+fn read_make<'a>(alloc: Global, operands: &'a [String]) -> Result<Option<Request<'a>>, NoMemory>
+    requires { list_all is_plain_word (map string_bytes operands.now) ≡ true }
+    ensures asked { IfOk result (λ r. option_map asked r ≡ make_form (map string_bytes operands.now)) }
+    ensures in_range { IfOk result (λ r. IfSome r IsInRange) }
+{
+    let Some((number, ticks)) = two_operands(alloc, operands)? else {
+        return Ok(None);
+    };
+    let Some(number) = read_number(number) else {
+        return Ok(None);
+    };
+    let Some(ticks) = read_ticks(ticks) else {
+        return Ok(None);
+    };
+    Ok(Some(Request::Make { number, ticks }))
+}
+
+/// Reads the operands that the command of a name has.
+fn read_operands<'a>(
+    alloc: Global,
+    name: &str,
+    operands: &'a [String],
+) -> Result<Option<Request<'a>>, NoMemory>
+    requires { list_all is_plain_word (map string_bytes operands.now) ≡ true }
+    ensures asked { IfOk result (λ r. option_map asked r ≡ named_form name.now (map string_bytes operands.now)) }
+    ensures in_range { IfOk result (λ r. IfSome r IsInRange) }
+{
+    if name == "check" {
+        read_check(alloc, operands)
+    } else if name == "make" {
+        read_make(alloc, operands)
+    } else {
+        Ok(None)
+    }
+}
+
 /// Reads the words, those after the program's name. `None` says that they are no command form.
 pub(crate) fn read_request<'a>(
     alloc: Global,
     words: &'a [String],
 ) -> Result<Option<Request<'a>>, NoMemory>
-    ensures { IfOk result (λ r. option_map asked r ≡ command_of (map string_bytes words.now)) }
+    ensures asked { IfOk result (λ r. option_map asked r ≡ command_of (map string_bytes words.now)) }
+    ensures in_range { IfOk result (λ r. IfSome r IsInRange) }
 {
     if !are_plain(words) {
         return Ok(None);
@@ -58,9 +121,5 @@ pub(crate) fn read_request<'a>(
     let Some((name, operands)) = words.split_first() else {
         return Ok(None);
     };
-    if name.as_str() == "check" {
-        read_check(alloc, operands)
-    } else {
-        Ok(None)
-    }
+    read_operands(alloc, name.as_str(), operands)
 }

@@ -399,7 +399,7 @@ fn certificate_lines_get_their_words(rt: HostRuntime) -> Result<(), Fail> {
 }
 
 // Words that are no command form.
-const NO_FORMS: [&[&str]; 14] = [
+const NO_FORMS: [&[&str]; 18] = [
     &[],
     &["check"],
     &["check", "feed"],
@@ -412,8 +412,12 @@ const NO_FORMS: [&[&str]; 14] = [
     &["help"],
     &["replay", "feed"],
     &["replay", "feed", "feed"],
+    &["make", "1"],
     &["make", "1", "0"],
     &["make", "1", "391"],
+    &["make", "1", "1.0"],
+    &["make", "1", "1", "1"],
+    &["make", "2147483648", "1"],
 ];
 
 const USAGE: &str =
@@ -433,7 +437,7 @@ fn words_of_no_form_call_no_device(rt: HostRuntime) -> Result<(), Fail> {
 }
 
 // The words, the room for what is sent, what is sent and which fault comes.
-const FAULTS: [([&str; 3], usize, &str, Exit); 4] = [
+const FAULTS: [([&str; 3], usize, &str, Exit); 6] = [
     (
         ["check", "missing", "certificates"],
         1000,
@@ -458,6 +462,18 @@ const FAULTS: [([&str; 3], usize, &str, Exit); 4] = [
         "YES,1",
         Exit::WriteFault { slot: Slot::Out },
     ),
+    (
+        ["make", "0", "1"],
+        0,
+        "",
+        Exit::WriteFault { slot: Slot::Out },
+    ),
+    (
+        ["make", "0", "1"],
+        5,
+        "H,1,2",
+        Exit::WriteFault { slot: Slot::Out },
+    ),
 ];
 
 #[test]
@@ -467,6 +483,22 @@ fn missing_files_and_missing_room_are_faults(rt: HostRuntime) -> Result<(), Fail
         let mut desk = desk_of(rt.alloc(), *room, 5, &[], &feed, LEVEL.as_bytes())?;
         assert_eq!(rt; run_words(rt.alloc(), words, &mut desk)?, *exit);
         assert_eq!(rt; desk.sent(Slot::Out), out.as_bytes());
+    }
+    Ok(())
+}
+
+// The words of sample feeds with one tick; NUMBER and TICKS may be one word.
+const SAMPLES: [[&str; 3]; 2] = [["make", "0", "1"], ["make", "1", "1"]];
+
+#[test]
+fn sample_feeds_are_sent(rt: HostRuntime) -> Result<(), Fail> {
+    for words in SAMPLES.iter() {
+        let mut desk = desk_of(rt.alloc(), 100_000, 1000, &[], b"", b"")?;
+        assert_eq!(rt; run_words(rt.alloc(), words, &mut desk)?, Exit::Done);
+        let text = str::from_utf8(desk.sent(Slot::Out))?;
+        assert_eq!(rt; text.lines().count(), 1_607);
+        assert!(rt; text.starts_with("H,1,2014-09-22\n"));
+        assert!(rt; text.ends_with("V,08:30\nEND,1605\n"));
     }
     Ok(())
 }
