@@ -13,3 +13,4 @@ pub mod RowDecisions
 pub mod TermOutcomes
 pub mod TickOutcomes
 pub mod SampleTextProofs
+pub mod NextRows

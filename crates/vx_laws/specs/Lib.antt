@@ -5,3 +5,4 @@ pub mod StrikesByEnds
 pub mod TermOutcomes
 pub mod TickOutcomes
 pub mod SampleText
+pub mod NextRows

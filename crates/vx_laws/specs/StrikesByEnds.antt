@@ -1,12 +1,12 @@
 -- Where the listed strikes lie by two ends around a forward, and what that says of the level.
-use Rattle.std.specs.Prelude.{◌≡◌, ℕ, ◌<◌, ◌≤◌, ◌⊎◌, ℤ, pos, ◌+ℤ◌, ◌*ℤ◌, ◌≤ℤ◌, ◌<ℤ◌, List}
+use Rattle.std.specs.Prelude.{◌≡◌, ℕ, ◌<◌, ◌⊎◌, ℤ, pos, ◌+ℤ◌, ◌*ℤ◌, ◌≤ℤ◌, ◌<ℤ◌, List}
 use Rattle.vx_symbol.specs.declared.rows.StrikeRow.{StrikeRow}
 use Rattle.vx_formula.specs.declared.limits.TheConstants.{FORWARD_UNITS, FORWARD_WIDTH_MAX}
 use Rattle.vx_formula.specs.Term.{Term}
 use Rattle.vx_formula.specs.Level.{IsListed, IsLevel}
 use Rattle.vx_formula.specs.Between.{ForwardBetween}
 use Rattle.vx_formula.specs.Refusal.{IsBelowAll}
-use Rattle.vx_formula.specs.Undecided.{StrikeStraddles, UndecidedForward}
+use Rattle.vx_formula.specs.Undecided.{UndecidedForward}
 use Rattle.vx_forward.specs.Level.{IsLowestBetween}
 
 -- just one of three holds

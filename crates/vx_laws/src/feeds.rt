@@ -1,6 +1,7 @@
-//! What may come next in a feed. Each function does nothing: its clauses are the laws.
+//! What may come next in a feed, and what it changes. Each function does nothing: its clauses are the laws.
 
 ghost use Rattle.vx_laws.specs.NextEvents.{FaultIsOfFirstCause, InOrderHasNoCause, FaultsByCause, HeaderAfterEnd, EarlyQuoteAfterEnd, OtherCountAfterEnd, EarlySecondOpening, LeadingPartsAreLawful, OneMoreIsLawful, EndIsLast, PrefixIsLawful, BadLineFollowsPrefix, BadLineIsOne, LawfulFeedEnds};
+ghost use Rattle.vx_laws.specs.NextRows.{NextStrikesListed, NextRows, NextRowsListed};
 
 /// The fault of an event is that of the first cause that holds, and an event is in order where none does.
 pub fn first_cause_is_answered()
@@ -34,4 +35,12 @@ pub fn lawful_prefixes()
     ensures follows { BadLineFollowsPrefix }
     ensures one { BadLineIsOne }
     ensures ends { LawfulFeedEnds }
+{}
+
+/// The listed strikes of an expiry, and their rows, after one more event: a quote changes at most one
+/// price of one row, and a series that is listed now adds at most one row.
+pub fn next_rows()
+    ensures strikes { NextStrikesListed }
+    ensures rows { NextRows }
+    ensures listed { NextRowsListed }
 {}
