@@ -19,7 +19,7 @@ use Rattle.vx_feed.specs.Listed.{expiry_of, is_listed, listed_rows, listed_strik
 abbrev pub completes_strike : Expiry → List Event → Symbol → Bool
 completes_strike x events s = is_same_expiry x (expiry_of s) && is_listed (other_side s) events
 
--- the strike of the expiry, both of whose sides are listed once the event is there
+-- the strike of the series that the event lists, if with it both sides of the strike are listed for the expiry
 abbrev pub completed_strike : Expiry → List Event → Event → Option ℕ
 completed_strike x events (event.Series s) = if completes_strike x events s then Some s.strike else None
 completed_strike x events _ = None
@@ -35,7 +35,8 @@ abbrev pub is_listing : Event → Bool
 is_listing (event.Series s) = true
 is_listing _ = false
 
--- the price of a listed series after an event that may quote it: that of the new quote, if that stands, and else none
+-- the price of a listed series after an event that may quote it: the price that it had, where the event does not; else that of the
+-- new quote, if that stands, and none if it does not
 abbrev pub price_after : Option BidAsk → Price → Price
 price_after None price = price
 price_after (Some quote) price = quoted_price (if_standing quote)
@@ -60,7 +61,7 @@ abbrev pub insert_row : StrikeRow → List StrikeRow → List StrikeRow
 insert_row row [] = row ∷ []
 insert_row row (r ∷ rows) = if nat_lt row.strike r.strike then row ∷ r ∷ rows else r ∷ insert_row row rows
 
--- the row of a strike with a price on the other side than this one, and none on this one
+-- the row of a strike with no price on this side, and this price on the other
 abbrev pub row_without : Side → ℕ → Price → StrikeRow
 row_without Put k price = record { strike = k; put = no_price; call = price }
 row_without Call k price = record { strike = k; put = price; call = no_price }
@@ -69,8 +70,8 @@ row_without Call k price = record { strike = k; put = price; call = no_price }
 abbrev pub row_when_listed : List Event → Symbol → StrikeRow
 row_when_listed events s = row_without s.side s.strike (standing_price events (other_side s))
 
--- the rows after a series is listed that was not listed before (as none was that may come next): its row in its place among them,
--- if now both sides of its strike are listed, and else the same ones
+-- the rows after a series is listed that was not listed before, which is so of any that may be listed next: if now both sides of its
+-- strike are listed, its row in its place among them, and else the same ones
 abbrev pub NextRowsListed : Type 0
 NextRowsListed = (x : Expiry) (events : List Event) (s : Symbol) → is_listed s events ≡ false →
     listed_rows x (events ++ event.Series s ∷ [])
