@@ -15,3 +15,6 @@ pub use answer::{TermAnswer, TermRefusal, TermRun};
 pub use index::{interpolate, single};
 pub use laws::{square_is_ordered, term_answer_is_one, variance_is_ordered};
 pub use variance::{term_variance, variance_with};
+
+#[cfg(test)]
+mod tests;

@@ -1,0 +1,142 @@
+ghost use Rattle.std.specs.Prelude.{IfSome};
+ghost use Rattle.vx_symbol.specs.Rows.{AreLawfulRows, IsRateInRange};
+
+use crate::{TermAnswer, TermRefusal, term_variance, variance_with};
+use std::alloc::Global;
+use std::test::Fail;
+use vx_bounds::exp_signed;
+use vx_clock::{DayNo, Expiry, Root};
+use vx_num::NoMemory;
+use vx_symbol::{Price, StrikeRow, TermView};
+
+// The prices 10.00 and 50.00, bid and ask alike, and none.
+const TEN: Price = Price {
+    there: true,
+    live: true,
+    half: 2_000,
+};
+
+const FIFTY: Price = Price {
+    there: true,
+    live: true,
+    half: 10_000,
+};
+
+const NONE: Price = Price {
+    there: false,
+    live: false,
+    half: 0,
+};
+
+// The first sample feed's rows.
+const SAMPLE: [StrikeRow; 3] = [
+    StrikeRow {
+        strike: 1_900_000,
+        put: TEN,
+        call: NONE,
+    },
+    StrikeRow {
+        strike: 2_000_000,
+        put: FIFTY,
+        call: FIFTY,
+    },
+    StrikeRow {
+        strike: 2_100_000,
+        put: NONE,
+        call: TEN,
+    },
+];
+
+const OCTOBER_17: Expiry = Expiry {
+    root: Root::Spx,
+    date: DayNo(16_360),
+};
+
+// What is answered 30 days ahead of the settlement.
+fn answer_of(
+    alloc: Global,
+    rows: &[StrikeRow],
+    rate: Option<i32>,
+) -> Result<TermAnswer<62>, NoMemory>
+    requires lawful { AreLawfulRows rows.now }
+    requires rate { IfSome rate IsRateInRange }
+{
+    let term = TermView {
+        expiry: OCTOBER_17,
+        rate,
+        rows,
+    };
+    term_variance::<62>(alloc, &term, 43_200)
+}
+
+// The same with the exponential given, which is 1.
+fn answer_with_one(alloc: Global, rows: &[StrikeRow]) -> Result<TermAnswer<62>, NoMemory>
+    requires lawful { AreLawfulRows rows.now }
+{
+    let term = TermView {
+        expiry: OCTOBER_17,
+        rate: Some(0),
+        rows,
+    };
+    let exp = exp_signed::<62>(0, 52_560_000_000_000);
+    variance_with::<62>(alloc, &term, 43_200, 0, exp)
+}
+
+// The level, the low end of the forward, and the ends of the strip's sum and of the variance.
+fn numbers(answer: &TermAnswer<62>) -> Option<[i128; 6]> {
+    match answer {
+        TermAnswer::Run(run) => Some([
+            i128::from(run.k0),
+            run.f.lo(),
+            run.sum.total.lo(),
+            run.sum.total.hi(),
+            run.w.lo(),
+            run.w.hi(),
+        ]),
+        _ => None,
+    }
+}
+
+// The numbers are those of a computation with fractions: the contributions are 1/3610, 1/800 and
+// 1/4410, and the variance is twice their sum.
+const SAMPLE_NUMBERS: [i128; 6] = [
+    2_000_000,
+    9_223_372_036_854_775_808_000_000,
+    8_087_816_665_425_779,
+    8_087_816_665_425_782,
+    16_175_633_330_851_558,
+    16_175_633_330_851_564,
+];
+
+#[test]
+fn sample_term_has_its_variance(rt: HostRuntime) -> Result<(), Fail> {
+    let run = answer_of(rt.alloc(), &SAMPLE, Some(0))?;
+    assert_eq!(rt; numbers(&run), Some(SAMPLE_NUMBERS));
+    let run = answer_with_one(rt.alloc(), &SAMPLE)?;
+    assert_eq!(rt; numbers(&run), Some(SAMPLE_NUMBERS));
+    Ok(())
+}
+
+// No rate, no row with both sides live, and no strike above the level.
+#[test]
+fn refusals_have_their_cause(rt: HostRuntime) -> Result<(), Fail> {
+    assert!(rt;
+        matches!(
+            answer_of(rt.alloc(), &SAMPLE, None)?,
+            TermAnswer::Refused(TermRefusal::NoRate)
+        )
+    );
+    assert!(rt;
+        matches!(
+            answer_of(rt.alloc(), &SAMPLE[..1], Some(0))?,
+            TermAnswer::Refused(TermRefusal::NoPair)
+        )
+    );
+    assert!(rt;
+        matches!(
+            answer_of(rt.alloc(), &SAMPLE[..2], Some(0))?,
+            TermAnswer::Refused(TermRefusal::NoStrikeAbove)
+        )
+    );
+    Ok(())
+}
