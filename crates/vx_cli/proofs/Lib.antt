@@ -7,3 +7,6 @@ mod RequestLemmas
 mod CheckIsOne
 mod ReplayIsOne
 mod SettleIsOne
+mod ReadingLemmas
+mod TakeLemmas
+mod TextLemmas
