@@ -1,5 +1,5 @@
 -- What the checker answers to a certificate over what its book keeps. This project's own.
-use Rattle.std.specs.Prelude.{◌≡◌, ℕ, pos, List, Some, IsTrue}
+use Rattle.std.specs.Prelude.{◌≡◌, ℕ, pos, List, Some, IsTrue, Bool, true, false}
 use Rattle.vx_clock.specs.declared.terms.Expiry.{Expiry}
 use Rattle.vx_cert.specs.declared.certificate.Pair.{Pair}
 use Rattle.vx_cert.specs.declared.certificate.CertBody.{CertBody}
@@ -28,6 +28,11 @@ LevelMeets book version line time x pair k0 _ = Unit {0}
 abbrev pub IsVerdict : (Test → Type 0) → Verdict → Type 0
 IsVerdict Meets Yes = (test : Test) → Meets test
 IsVerdict Meets (No n) = (test : Test) × (n ≡ test_number test) × FirstFailing Meets test
+
+-- certificates of this kind are tested; those of the other kinds are not yet
+abbrev pub is_tested_kind : CertBody → Bool
+is_tested_kind (K0 x pair k0) = true
+is_tested_kind _ = false
 
 -- of a certificate's body: a kind that is not tested yet never gets a yes
 abbrev pub IsBodyVerdict : PlainBook → ℕ → ℕ → ℕ → CertBody → Verdict → Type 0

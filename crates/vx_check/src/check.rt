@@ -8,7 +8,7 @@ ghost use Rattle.vx_claims.specs.Means.{Means};
 ghost use Rattle.vx_check.specs.declared.check.Verdict.TheVariants.{Yes};
 ghost use Rattle.vx_formula.specs.Pair.{pair_of, is_both_live};
 ghost use Rattle.vx_check.specs.Kept.{is_kept};
-ghost use Rattle.vx_check.specs.Answers.{IsAnswer, IsAnswerOver};
+ghost use Rattle.vx_check.specs.Answers.{IsAnswer, IsAnswerOver, is_tested_kind};
 ghost use Rattle.vx_check.specs.StandsFor.{StandsFor};
 ghost use Rattle.vx_check.specs.LevelTests.{is_tick_at, has_zero_rate, expiry_verdict, first_failing, is_pair_of_row, is_as_close, is_closest, zero_rate_forward, is_other_above, is_level, level_verdict};
 
@@ -25,7 +25,9 @@ pub enum Verdict {
 }
 
 /// Whether certificates of this kind are tested yet: kind `k0` is, and no other.
-pub fn is_tested(c: &Certificate) -> bool {
+pub fn is_tested(c: &Certificate) -> bool
+    ensures { result ≡ is_tested_kind c.now.body }
+{
     matches!(c.body, CertBody::K0 { .. })
 }
 
