@@ -4,5 +4,6 @@ pub mod Index
 pub mod Ranges
 pub mod Runs
 pub mod Answer
+pub mod Meaning
 pub mod Steps
 pub mod Laws

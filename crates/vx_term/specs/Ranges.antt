@@ -1,8 +1,9 @@
 -- The ranges of variances and of squares of the index, in units of 2^-P. This project's own.
 use Rattle.std.specs.Prelude.{ℕ, ◌+◌, ◌*◌, ◌-◌, ◌≤◌, ℤ, pos, neg_ℤ, nat_abs, ◌-ℤ◌, ◌*ℤ◌, ◌≤ℤ◌}
 use Rattle.vx_clock.specs.declared.limits.TheConstants.{MINUTES_MIN, MINUTES_MAX, FIGURE_DAYS_MIN, FIGURE_DAYS_MAX}
-use Rattle.vx_interval.specs.Ends.{Ends, unit}
+use Rattle.vx_interval.specs.Ends.{Ends, unit, width}
 use Rattle.vx_formula.specs.declared.limits.TheConstants.{VARIANCE_MAX, SQUARE_MAX}
+use Rattle.vx_term.specs.declared.limits.TheConstants.{VARIANCE_WIDTH_MAX}
 
 -- both ends are within so many units in absolute value
 pub record IsWithin (limit : ℤ) (x : Ends) : Type 0 where
@@ -12,6 +13,10 @@ pub record IsWithin (limit : ℤ) (x : Ends) : Type 0 where
 -- a variance times its term's time is within 6
 abbrev pub IsVarianceInRange : ℕ → Ends → Type 0
 IsVarianceInRange P w = IsWithin (pos VARIANCE_MAX *ℤ unit P) w
+
+-- and at most 37,000 units wide
+abbrev pub IsVarianceNarrow : Ends → Type 0
+IsVarianceNarrow w = width w ≤ℤ pos VARIANCE_WIDTH_MAX
 
 -- the square of the index over 100 is within 1024
 abbrev pub IsSquareInRange : ℕ → Ends → Type 0

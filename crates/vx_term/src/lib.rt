@@ -8,6 +8,7 @@
 mod answer;
 mod index;
 mod laws;
+pub mod limits;
 mod steps;
 mod variance;
 
