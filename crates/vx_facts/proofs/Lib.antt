@@ -1,0 +1,4 @@
+pub mod InRange
+pub mod StrikeCounts
+pub mod PriceRanges
+pub mod ShownProofs

@@ -1,0 +1,5 @@
+use Rattle.vx_facts.proofs.ShownProofs.{opening_is_lawful as proof}
+use Rattle.vx_facts.proofs.laws.opening_is_lawful.Goals as goal
+
+pub returns : goal.returns
+returns c = proof
