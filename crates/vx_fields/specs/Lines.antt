@@ -1,10 +1,9 @@
 -- Lines of text and the pieces between their commas.
-use Rattle.std.specs.Prelude.{ℕ, Bool, not, ◌&&◌, ◌==◌, nat_le, List, [], ◌∷◌, ◌++◌, length, if◌then◌else◌}
+use Rattle.std.specs.Prelude.{ℕ, ◌-◌, Bool, not, ◌&&◌, ◌==◌, nat_le, List, [], ◌∷◌, length, slice_index_or, Option, Some, None, if◌then◌else◌}
 use Rattle.std.specs.List.{list_all, onto_first, slice_split}
-
--- the byte that ends a line
-abbrev pub line_feed : ℕ
-line_feed = 10
+pub use Rattle.vx_lines.specs.TextLines.{line_feed, text_of}
+use Rattle.vx_fields.specs.declared.line.Unsplit.{Unsplit}
+use Rattle.vx_fields.specs.declared.line.Unsplit.TheVariants.{Empty, Byte}
 
 -- the byte between two fields
 abbrev pub comma : ℕ
@@ -22,12 +21,15 @@ is_plain_line line = not (length line == 0) && list_all is_plain line
 abbrev pub fields_of_line : List ℕ → List (List ℕ)
 fields_of_line line = slice_split (λ byte. byte == comma) line
 
--- the lines of a text, each without the LF that ends it
-abbrev pub lines_of : List ℕ → List (List ℕ)
-lines_of [] = []
-lines_of (byte ∷ text) = if byte == line_feed then [] ∷ lines_of text else onto_first byte (lines_of text)
+-- the n-th field, from 1
+abbrev pub field : List (List ℕ) → ℕ → List ℕ
+field fields n = slice_index_or fields (n - 1) []
 
--- the text of lines, each ended by LF
-abbrev pub text_of : List (List ℕ) → List ℕ
-text_of [] = []
-text_of (line ∷ lines) = line ++ line_feed ∷ text_of lines
+-- why a line has no fields, the first that holds: it is empty, or a byte of it is not plain
+abbrev pub why_unsplit : List ℕ → Option Unsplit
+why_unsplit line = if length line == 0 then Some Empty else (if list_all is_plain line then None else Some Byte)
+
+-- the lines of a text, each without the LF that ends it
+abbrev pub lines_in : List ℕ → List (List ℕ)
+lines_in [] = []
+lines_in (byte ∷ text) = if byte == line_feed then [] ∷ lines_in text else onto_first byte (lines_in text)

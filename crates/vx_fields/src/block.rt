@@ -1,35 +1,13 @@
+//! Lines that are split together.
+
 ghost use Rattle.std.specs.Prelude.{◌≡◌, ◌==◌, [], ◌∷◌, ◌++◌, length, true, OnOk, OnErr};
 ghost use Rattle.std.specs.List.{list_all};
-ghost use Rattle.vx_fields.specs.Lines.{is_plain, is_plain_line, line_feed, lines_of, text_of};
+ghost use Rattle.vx_fields.specs.Lines.{is_plain_line, line_feed, lines_in, text_of};
 
 use std::alloc::Global;
 use std::marker::Model;
+use vx_lines::LF;
 use vx_num::NoMemory;
-
-/// The byte that ends a line.
-pub const LINE_FEED: u8 = b'\n';
-
-// Whether a byte is printable and no double quote.
-fn is_plain(byte: u8) -> bool
-    ensures { result ≡ is_plain byte }
-{
-    byte >= 0x20 && byte <= 0x7E && byte != b'"'
-}
-
-// Whether each byte is plain.
-fn are_plain(bytes: &[u8]) -> bool
-    ensures { result ≡ list_all is_plain bytes.now }
-{
-    bytes.iter().all(|byte| is_plain(*byte))
-}
-
-/// Whether a line can be split here: it is not empty, and each of its bytes is one of 0x20 to 0x7E
-/// and no double quote.
-pub fn is_plain_line(line: &[u8]) -> bool
-    ensures { result ≡ is_plain_line line.now }
-{
-    !line.is_empty() && are_plain(line)
-}
 
 // Appends a line and its LF, both or neither.
 fn append_line(text: &mut Vec<u8>, line: &[u8]) -> Result<(), NoMemory>
@@ -37,7 +15,7 @@ fn append_line(text: &mut Vec<u8>, line: &[u8]) -> Result<(), NoMemory>
     ensures err { OnErr result (text.new.items ≡ text.old.items) }
 {
     let before = text.len();
-    if text.extend_from_slice(line).is_err() || text.push(LINE_FEED).is_err() {
+    if text.extend_from_slice(line).is_err() || text.push(LF).is_err() {
         text.truncate(before);
         return Err(NoMemory);
     }
@@ -54,13 +32,13 @@ pub struct LineBlock {
 impl Model for LineBlock {
     ghost use Rattle.std.specs.Prelude.{ℕ, ◌≡◌, List, length, true};
     ghost use Rattle.std.specs.List.{list_all};
-    ghost use Rattle.vx_fields.specs.Lines.{is_plain_line, lines_of, text_of};
+    ghost use Rattle.vx_fields.specs.Lines.{is_plain_line, lines_in, text_of};
 
     ghost Value = { List (List ℕ) };
 
-    ghost view = { λ b. lines_of b.text.items };
+    ghost view = { λ b. lines_in b.text.items };
 
-    ghost invariant = { λ b. (b.text.items ≡ text_of (lines_of b.text.items)) × (list_all is_plain_line (lines_of b.text.items) ≡ true) × (b.lines ≡ length (lines_of b.text.items)) };
+    ghost invariant = { λ b. (b.text.items ≡ text_of (lines_in b.text.items)) × (list_all is_plain_line (lines_in b.text.items) ≡ true) × (b.lines ≡ length (lines_in b.text.items)) };
 }
 
 impl LineBlock {
@@ -90,9 +68,9 @@ impl LineBlock {
 
     // The text of the lines, each with its LF.
     pub(crate) fn text(&self) -> &[u8]
-        ensures lines { lines_of result.now ≡ self.now }
-        ensures whole { result.now ≡ text_of (lines_of result.now) }
-        ensures plain { list_all is_plain_line (lines_of result.now) ≡ true }
+        ensures lines { lines_in result.now ≡ self.now }
+        ensures whole { result.now ≡ text_of (lines_in result.now) }
+        ensures plain { list_all is_plain_line (lines_in result.now) ≡ true }
     {
         &self.text
     }

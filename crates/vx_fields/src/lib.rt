@@ -5,9 +5,11 @@
 #![tactic(auto)]
 
 mod block;
+mod line;
 mod table;
 
-pub use block::{LineBlock, is_plain_line};
+pub use block::LineBlock;
+pub use line::{Unsplit, is_plain_line, why_unsplit};
 pub use table::{FieldTable, Fields};
 
 #[cfg(test)]

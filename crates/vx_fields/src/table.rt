@@ -2,7 +2,7 @@ ghost use Rattle.std.specs.Prelude.{◌≡◌, ◌+◌, ◌<◌, ◌≤◌, [], 
 ghost use Rattle.std.specs.Option.{option_copied};
 ghost use Rattle.std.specs.List.{list_all};
 ghost use Rattle.csv.specs.Records.{fields_of};
-ghost use Rattle.vx_fields.specs.Lines.{fields_of_line, is_plain_line, lines_of, text_of};
+ghost use Rattle.vx_fields.specs.Lines.{fields_of_line, is_plain_line, lines_in, text_of};
 
 use crate::block::LineBlock;
 use csv::{ByteRecord, ReaderBuilder};
@@ -17,11 +17,11 @@ fn read_rows(
     rows: &mut [ByteRecord],
     count: usize,
 ) -> Result<(), NoMemory>
-    requires whole { text.now ≡ text_of (lines_of text.now) }
-    requires plain { list_all is_plain_line (lines_of text.now) ≡ true }
-    requires counted { count ≡ length (lines_of text.now) }
+    requires whole { text.now ≡ text_of (lines_in text.now) }
+    requires plain { list_all is_plain_line (lines_in text.now) ≡ true }
+    requires counted { count ≡ length (lines_in text.now) }
     requires room { count ≤ length rows.old }
-    ensures { OnOk result (map fields_of (take count rows.new) ≡ map fields_of_line (lines_of text.now)) }
+    ensures { OnOk result (map fields_of (take count rows.new) ≡ map fields_of_line (lines_in text.now)) }
 {
     let mut reader = ReaderBuilder::new()
         .has_headers(false)

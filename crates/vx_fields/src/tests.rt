@@ -1,4 +1,4 @@
-use crate::{FieldTable, LineBlock, is_plain_line};
+use crate::{FieldTable, LineBlock, Unsplit, is_plain_line, why_unsplit};
 use std::test::Fail;
 
 #[test]
@@ -28,4 +28,7 @@ fn other_lines_are_not_plain(rt: HostRuntime) {
     for line in ["", "\"", "a\tb", "a\r", "a\u{7f}", "é"] {
         assert!(rt; !is_plain_line(line.as_bytes()));
     }
+    assert_eq!(rt; why_unsplit(b""), Some(Unsplit::Empty));
+    assert_eq!(rt; why_unsplit(b"a\tb"), Some(Unsplit::Byte));
+    assert!(rt; why_unsplit(b"a,b").is_none());
 }

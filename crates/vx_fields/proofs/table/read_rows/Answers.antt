@@ -1,7 +1,7 @@
 use Rattle.std.proofs.Common.{◌∙◌, ◌<◌, ◌+◌, length, [], refl, arith, inr, ap, Some, drop, get_or}
 use Rattle.csv.specs.Reading.{builder_config, builder_trim, builder_names_headers, strip_bom}
 use Rattle.csv.specs.Records.{fields_of}
-use Rattle.vx_fields.specs.Lines.{lines_of, text_of}
+use Rattle.vx_fields.specs.Lines.{lines_in, text_of}
 use Rattle.vx_fields.proofs.CsvLines.{strip_plain}
 use Rattle.vx_fields.proofs.CsvReader.{text_at, plain_at, next_row, read_line}
 use Rattle.vx_fields.proofs.table.read_rows.Goals as goal
@@ -17,18 +17,18 @@ loop-i-init c =
         state = made.state;
         ready = inr (inr (made.has_headers ∙ ap builder_names_headers c.flexible.ensures ∙ ap builder_names_headers c.has_headers.ensures, made.headers));
         working = made.fresh;
-        source = made.source ∙ ap Some (ap strip_bom c.requires.whole ∙ strip_plain (lines_of c.args.text.now) c.requires.plain);
+        source = made.source ∙ ap Some (ap strip_bom c.requires.whole ∙ strip_plain (lines_in c.args.text.now) c.requires.plain);
       };
     }
 
 pub loop-i-preserved : goal.loop-i-preserved
 loop-i-preserved c =
-    let below : c.loop-i.i < length (lines_of c.args.text.now) = omega arith in
+    let below : c.loop-i.i < length (lines_in c.args.text.now) = omega arith in
     let in_rows : c.loop-i.i < length c.loop-i.rows = omega arith in
-    let left = rw (text_at (lines_of c.args.text.now) c.loop-i.i below) at c.loop-i.invariant.left in
-    let got = read_line c.loop-i.reader c.read_byte_record.new.self (get_or (lines_of c.args.text.now) c.loop-i.i []) (text_of (drop (c.loop-i.i + 1) (lines_of c.args.text.now))) c.in-Ok-true.field-0 (fields_of c.read_byte_record.new.row) left (plain_at (lines_of c.args.text.now) c.loop-i.i c.requires.plain below)
+    let left = rw (text_at (lines_in c.args.text.now) c.loop-i.i below) at c.loop-i.invariant.left in
+    let got = read_line c.loop-i.reader c.read_byte_record.new.self (get_or (lines_in c.args.text.now) c.loop-i.i []) (text_of (drop (c.loop-i.i + 1) (lines_in c.args.text.now))) c.in-Ok-true.field-0 (fields_of c.read_byte_record.new.row) left (plain_at (lines_in c.args.text.now) c.loop-i.i c.requires.plain below)
     (c.in-Ok-true.ensures.reads left.trims left.ready) (c.in-Ok-true.ensures.ready left.trims) c.in-Ok-true.ensures.goes in
     record {
-      so_far = next_row (lines_of c.args.text.now) c.loop-i.rows c.read_byte_record.new.row c.loop-i.i below in_rows c.loop-i.invariant.so_far got.1;
+      so_far = next_row (lines_in c.args.text.now) c.loop-i.rows c.read_byte_record.new.row c.loop-i.i below in_rows c.loop-i.invariant.so_far got.1;
       left = got.2;
     }
