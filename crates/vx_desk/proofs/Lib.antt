@@ -3,3 +3,4 @@ pub mod ReaderLemmas
 pub mod NextLemmas
 pub mod UntoldLemmas
 pub mod MemoryLemmas
+pub mod ComingLemmas

@@ -1,18 +1,21 @@
 -- Steps and answers of `next`, over what is told of its slot.
 use Rattle.std.proofs.Common.{◌≡◌, ◌≢◌, ℕ, ◌+◌, ◌<◌, ◌≤◌, Bool, true, false, List, [], ◌∷◌, ◌++◌, length, take, drop, Option, Some, None, Result, Ok, Err, refl, sym, ◌∙◌, ap, subst, arith}
-use Rattle.std.specs.Prelude.{IfSome}
+use Rattle.std.specs.Prelude.{IfSome, IsTrue, MatchOption, ◌↔◌, not, ◌&&◌, ◌==◌, nat_lt}
+use Rattle.std.specs.List.{list_any}
+use Rattle.std.proofs.lemmas.Bool.Decides.{nat_tests}
 use Rattle.std.specs.Io.KnownBytes.{prepend_known, IsAtEnd}
 use Rattle.std.proofs.lemmas.List.{append_assoc, append-nil, length-append, length-take-le, take-append-drop, take-append-le, take-take, drop_more}
 use Rattle.std.proofs.lemmas.List.Elements.{All-take}
 use Rattle.vx_desk.specs.declared.device.Failed.{Failed}
+use Rattle.vx_desk.specs.declared.device.Slot.{Slot}
 use Rattle.vx_desk.specs.declared.lines.Line.{Line}
 use Rattle.vx_desk.specs.declared.lines.ReadFault.{ReadFault}
 use Rattle.vx_desk.specs.declared.lines.ReadFault.TheVariants.{Device, LineTooLong}
 use Rattle.vx_desk.specs.declared.lines.TheConstants.{LF}
-use Rattle.vx_desk.specs.Told.{Told, ChangesReads}
-use Rattle.vx_desk.specs.Lines.{ReaderState, to_come, HasNoLf, IsTooLong, IsCutOff, next_number, GivesLine, GivesNone, Answers, CountsReads}
+use Rattle.vx_desk.specs.Told.{Told, ChangesReads, ChangesOnly}
+use Rattle.vx_desk.specs.Lines.{ReaderState, to_come, HasNoLf, IsTooLong, IsCutOff, next_number, GivesLine, GivesNone, Answers, CountsReads, IsLineOrLong, holds_line}
 use Rattle.vx_desk.specs.Refill.{IsFirstLf, Refills, IsCut, Cuts, EndsInput}
-use Rattle.vx_desk.proofs.ReaderLemmas.{prepend_known-append}
+use Rattle.vx_desk.proofs.ReaderLemmas.{prepend_known-append, no_lf_passes}
 
 -- the reader with these bytes waiting
 abbrev pub with_waiting : ReaderState → List ℕ → ReaderState
@@ -183,6 +186,49 @@ pub counts_end : (now new : ReaderState) (result : Result (Option Line) ReadFaul
 counts_end now new (Ok line) old count end same = same
 counts_end now new (Err fault) old count end same = rw end.1 same
 
--- a reader that is not over owes no answer for one that is
-pub not_over : {A : Type 0} (over : Bool) → over ≡ false → over ≡ true → A
-not_over over goes_on ended = let clash : true ≡ false = sym ended ∙ goes_on in cc
+-- a reader that gives nothing more holds no line
+pub ended_holds_none : {A : Type 0} (reader : ReaderState) → reader.is_ended ≡ true → holds_line reader ≡ true → A
+ended_holds_none reader ended held =
+    let none : holds_line reader ≡ false = rw ended refl in
+    let clash : true ≡ false = sym held ∙ none in cc
+
+-- a reader whose waiting bytes are few and have no LF holds no line
+not_held : (reader : ReaderState) → HasNoLf reader.waiting → length reader.waiting ≤ reader.limit → holds_line reader ≡ false
+not_held reader none few =
+    let short : nat_lt reader.limit (length reader.waiting) ≡ false = grind (arith, nat_tests) in
+    let no_lf : list_any (λ byte. byte == LF) reader.waiting ≡ false = no_lf_passes reader.waiting none in
+    rw (short, no_lf) (elim reader.is_ended as (λ b. (not b && false) ≡ false) [ true ↦ refl | false ↦ refl ])
+
+-- a search that found nothing leaves no LF
+pub none_found : (bytes : List ℕ) (found : Option ℕ) → MatchOption found (HasNoLf bytes) (IsFirstLf bytes) → ((place : ℕ) → found ≡ Some place → ⊥) → HasNoLf bytes
+none_found bytes None none not_some = none
+none_found bytes (Some place) lf not_some = absurd (not_some place refl)
+
+-- a reader that holds a line needs no read for it: what follows where none is found
+pub held_is_found : {A D : Type 0} (old now : ReaderState) (first desk : D) (past : Bool) → (holds_line old ≡ true → (desk ≡ first) × (now ≡ old)) → HasNoLf now.waiting
+    → past ≡ false → (IsTrue past ↔ (now.limit < length now.waiting)) → holds_line old ≡ true → A
+held_is_found old now first desk past same none short is held =
+    let few : now.limit < length now.waiting → ⊥ = λ long. let clash : true ≡ false = sym (is.1 long) ∙ short in cc in
+    let clash : true ≡ false = sym (ap holds_line (same held).1 ∙ held) ∙ not_held now none (grind arith) in cc
+
+-- one read more, at the slot of the reader that the call began with
+pub reads_once_more : (old now new : ReaderState) (first mid last : Slot → Told) (count : ℕ) → ReadsOn old now (first old.slot) (mid old.slot) → Refills now new (mid now.slot) (last now.slot) (Ok count)
+    → (last now.slot).failed_reads ≡ (mid now.slot).failed_reads → ChangesReads (mid now.slot) (last now.slot) → ReadsOn old new (first old.slot) (last old.slot)
+reads_once_more old now new first mid last count on more counts rest =
+    let slot : now.slot ≡ old.slot = ap (λ (s : ReaderState). s.slot) on.state in
+    ReadsOn-more old now new (first old.slot) (mid old.slot) (last old.slot) (Ok count) on
+    (subst (λ s. Refills now new (mid s) (last s) (Ok count)) slot more)
+    (subst (λ s. (last s).failed_reads ≡ (mid s).failed_reads) slot counts)
+    (subst (λ s. ChangesReads (mid s) (last s)) slot rest)
+
+-- the slots that are not read are as they were
+pub others_once_more : (old now new : ReaderState) (first mid last : Slot → Told) → now ≡ with_waiting old now.waiting → ChangesOnly old.slot first mid → ChangesOnly now.slot mid last → ChangesOnly old.slot first last
+others_once_more old now new first mid last is before more =
+    let slot : now.slot ≡ old.slot = ap (λ (s : ReaderState). s.slot) is in
+    λ other ne. subst (λ s. ChangesOnly s mid last) slot more other ne ∙ before other ne
+
+-- a cut gives a line, or the fault of one that has too many bytes
+pub cut_is_line_or_long : (now new : ReaderState) (place : ℕ) (result : Result (Option Line) ReadFault) → Cuts now new place result → IsLineOrLong result
+cut_is_line_or_long now new place (Ok None) cut = cut
+cut_is_line_or_long now new place (Ok (Some line)) cut = tt
+cut_is_line_or_long now new place (Err fault) cut = rw cut.1 tt

@@ -1,10 +1,12 @@
 -- Lines and blocks of a reader, over plain lists.
-use Rattle.std.proofs.Common.{◌≡◌, ◌≢◌, ℕ, ◌+◌, ◌-◌, ◌<◌, ◌≤◌, zero-le, List, [], ◌++◌, length, take, drop, get_or, Option, Some, None, MatchOption, refl, sym, ◌∙◌, ap, subst, arith, eq-eqb, eqb-true}
-use Rattle.std.specs.Prelude.{slice_range, Ok, Err}
+use Rattle.std.proofs.Common.{◌≡◌, ◌≢◌, ℕ, ◌+◌, ◌-◌, ◌<◌, ◌≤◌, zero-le, List, [], ◌∷◌, ◌++◌, zero, suc, true, false, length, take, drop, get_or, Option, Some, None, MatchOption, refl, sym, ◌∙◌, ap, subst, arith, eq-eqb, eqb-true}
+use Rattle.std.specs.Prelude.{slice_range, Ok, Err, is_some, ◌==◌, ◌||◌}
+use Rattle.std.specs.List.{list_any}
+use Rattle.std.proofs.lemmas.Bool.Decides.{nat_tests}
 use Rattle.std.specs.Io.KnownBytes.{prepend_known, IsAtEnd}
 use Rattle.std.proofs.lemmas.List.{append_assoc, length-append, length-take-le, take_at}
 use Rattle.std.proofs.lemmas.List.{get_or-take, get_or-drop, drop-take, drop-drop, take-append-drop, length-take, length-drop, take_all, take-take}
-use Rattle.std.proofs.lemmas.List.Elements.{All-from_get_or, All-append}
+use Rattle.std.proofs.lemmas.List.Elements.{All-from_get_or, All-append, All-head, All-tail}
 use Rattle.memchr.specs.Find.{IsFirstByte, Nowhere, Passes, is_byte}
 use Rattle.vx_desk.specs.declared.device.Failed.{Failed}
 use Rattle.vx_desk.specs.declared.lines.Line.{Line}
@@ -91,29 +93,41 @@ slice_range-more xs n part more first within =
     let f : n + (part - n) ≡ part = omega arith in
     ap (λ m. take m (drop n xs)) e ∙ (sym (take-more (drop n xs) (part - n) more) ∙ ap (λ ys. slice_range xs n part ++ take more ys) (drop-drop (part - n) n xs ∙ ap (λ m. drop m xs) f))
 
--- a part of a buffer, once the buffer from `kept` on was moved to the front
-moved-slice_range : (items moved : List ℕ) (kept start end : ℕ) → kept ≤ start → start ≤ end → take (end - kept) moved ≡ slice_range items kept end → slice_range moved (start - kept) (end - kept) ≡ slice_range items start end
-moved-slice_range items moved kept start end before ordered is =
-    let e : kept + (start - kept) ≡ start = omega arith in
-    let le : kept + (start - kept) ≤ end = omega arith in
-    let f : (start - kept) + ((end - kept) - (start - kept)) ≡ end - kept = omega arith in
-    (sym (drop-take (start - kept) ((end - kept) - (start - kept)) moved) ∙ ap (λ m. drop (start - kept) (take m moved)) f) ∙
-    (ap (drop (start - kept)) is ∙ (sym (drop-slice_range items kept (start - kept) end le) ∙ ap (λ m. slice_range items m end) e))
+-- buffers that begin alike have the same parts there
+same_part : (items moved : List ℕ) (from to : ℕ) → from ≤ to → take to moved ≡ take to items → slice_range moved from to ≡ slice_range items from to
+same_part items moved from to ordered front =
+    let e : from + (to - from) ≡ to = omega arith in
+    (sym (drop-take from (to - from) moved) ∙ ap (λ m. drop from (take m moved)) e) ∙
+    (ap (drop from) front ∙ (ap (λ m. drop from (take m items)) (sym e) ∙ drop-take from (to - from) items))
 
--- what waits once n bytes were read behind the part that was moved to the front
-pub waiting-refilled : (old items moved : List ℕ) (kept start end n : ℕ) → slice_range items start end ≡ old → kept ≤ start → start ≤ end → end - kept ≤ length moved → take (end - kept) moved ≡ slice_range items kept end → slice_range moved (start - kept) ((end - kept) + n) ≡ old ++ take n (drop (end - kept) moved)
-waiting-refilled old items moved kept start end n waits before ordered within is =
-    slice_range-more moved (start - kept) (end - kept) n (omega arith) within ∙
-    ap (λ xs. xs ++ take n (drop (end - kept) moved)) (moved-slice_range items moved kept start end before ordered is ∙ waits)
+-- what a buffer has from `kept` to `end`, once it moved down to make room and bytes were read behind it
+pub part-moved : (items room moved : List ℕ) (kept end down : ℕ) → kept ≤ end → slice_range room (kept - down) (end - down) ≡ slice_range items kept end
+    → take (end - down) moved ≡ take (end - down) room → slice_range moved (kept - down) (end - down) ≡ slice_range items kept end
+part-moved items room moved kept end down ordered part front = same_part room moved (kept - down) (end - down) (omega (arith, ordered)) front ∙ part
+
+-- a later part of it
+moved-slice_range : (items moved : List ℕ) (kept start end down : ℕ) → down ≤ kept → kept ≤ start → start ≤ end
+    → slice_range moved (kept - down) (end - down) ≡ slice_range items kept end → slice_range moved (start - down) (end - down) ≡ slice_range items start end
+moved-slice_range items moved kept start end down low before ordered part =
+    let near : (kept - down) + (start - kept) ≡ start - down = omega arith in
+    let far : kept + (start - kept) ≡ start = omega arith in
+    ap (λ m. slice_range moved m (end - down)) (sym near)
+    ∙ drop-slice_range moved (kept - down) (start - kept) (end - down) (omega arith)
+    ∙ ap (drop (start - kept)) part
+    ∙ sym (drop-slice_range items kept (start - kept) end (omega arith))
+    ∙ ap (λ m. slice_range items m end) far
+
+-- what waits once n bytes were read behind the part that moved down
+pub waiting-refilled : (old items moved : List ℕ) (kept start end down n : ℕ) → slice_range items start end ≡ old → down ≤ kept → kept ≤ start → start ≤ end → end - down ≤ length moved
+    → slice_range moved (kept - down) (end - down) ≡ slice_range items kept end → slice_range moved (start - down) ((end - down) + n) ≡ old ++ take n (drop (end - down) moved)
+waiting-refilled old items moved kept start end down n waits low before ordered within part =
+    slice_range-more moved (start - down) (end - down) n (omega (arith, ordered)) within ∙
+    ap (λ xs. xs ++ take n (drop (end - down) moved)) (moved-slice_range items moved kept start end down low before ordered part ∙ waits)
 
 -- they are as they were where nothing was read
-pub waiting-moved : (old items moved : List ℕ) (kept start end : ℕ) → slice_range items start end ≡ old → kept ≤ start → start ≤ end → take (end - kept) moved ≡ slice_range items kept end → slice_range moved (start - kept) (end - kept) ≡ old
-waiting-moved old items moved kept start end waits before ordered is = moved-slice_range items moved kept start end before ordered is ∙ waits
-
--- the last line lies before those that wait once both were moved to the front
-pub lies-moved : (last : Option Line) (kept start : ℕ) → LiesBetween kept start last → LiesBetween 0 (start - kept) last
-lies-moved None kept start lies = tt
-lies-moved (Some line) kept start lies = (lies.0, omega (arith, lies.1))
+pub waiting-moved : (old items moved : List ℕ) (kept start end down : ℕ) → slice_range items start end ≡ old → down ≤ kept → kept ≤ start → start ≤ end
+    → slice_range moved (kept - down) (end - down) ≡ slice_range items kept end → slice_range moved (start - down) (end - down) ≡ old
+waiting-moved old items moved kept start end down waits low before ordered part = moved-slice_range items moved kept start end down low before ordered part ∙ waits
 
 -- a read that failed
 pub Refills-err : (old new : ReaderState) (before after : Told) (buf : List ℕ) (e : Failed) → new ≡ record old { waiting = new.waiting } → new.waiting ≡ old.waiting → Reads buf before after (Err e) → Refills old new before after (Err e)
@@ -125,15 +139,41 @@ Refills-err old new before after buf e state same reads = record {
   at_end = tt;
 }
 
--- the last line's bytes once they were moved to the front
-pub last-moved : (last : Option Line) (items moved : List ℕ) (kept start end : ℕ) → LiesBetween kept start last → start ≤ end → take (end - kept) moved ≡ slice_range items kept end → bytes_given last 0 moved ≡ bytes_given last kept items
-last-moved None items moved kept start end lies ordered is = refl
-last-moved (Some line) items moved kept start end lies ordered is =
+-- the last line's bytes once they moved down
+pub last-moved : (last : Option Line) (items moved : List ℕ) (kept start end down : ℕ) → LiesBetween kept start last → down ≤ kept → start ≤ end
+    → slice_range moved (kept - down) (end - down) ≡ slice_range items kept end → bytes_given last (kept - down) moved ≡ bytes_given last kept items
+last-moved None items moved kept start end down lies low ordered part = refl
+last-moved (Some line) items moved kept start end down lies low ordered part =
     let size : ℕ = line.end - line.start in
-    let none : (0 + size) - 0 ≡ size = omega arith in
     let within : kept + size ≤ end = omega (arith, lies.1) in
-    ap (λ m. take m moved) none ∙ (sym (take-take size (end - kept) moved (omega arith)) ∙ (ap (take size) is ∙ sym (take-slice_range items kept size end within)))
+    take-slice_range moved (kept - down) size (end - down) (omega (arith, within, low)) ∙ (ap (take size) part ∙ sym (take-slice_range items kept size end within))
 
 -- the last line and what waits leave room in their buffer
 pub part-within : (items waiting : List ℕ) (kept start end limit size : ℕ) → slice_range items start end ≡ waiting → size ≡ length items → start ≤ end → end ≤ size → start ≤ kept + limit + 1 → limit + limit + 1 + 65536 ≤ size → length waiting ≤ limit → end - kept < size
 part-within items waiting kept start end limit size is same ordered within near room le = omega (arith, ap length is, length-take (end - start) (drop start items), length-drop start items)
+
+lf_is : (byte : ℕ) → byte ≡ LF → (byte == LF) ≡ true
+lf_is byte is = eq-eqb byte LF is
+
+other_is : (byte : ℕ) → byte ≢ LF → (byte == LF) ≡ false
+other_is byte other = grind (arith, nat_tests)
+
+-- bytes without LF have none that passes the test
+pub no_lf_passes : (bytes : List ℕ) → HasNoLf bytes → list_any (λ byte. byte == LF) bytes ≡ false
+no_lf_passes [] none = refl
+no_lf_passes (byte ∷ bytes) none =
+    let first : (byte == LF) ≡ false = other_is byte (All-head (λ b. b ≢ LF) byte bytes none) in
+    rw first (no_lf_passes bytes (All-tail (λ b. b ≢ LF) byte bytes none))
+
+-- bytes with LF have one that passes
+pub lf_passes : (bytes : List ℕ) (place : ℕ) → place < length bytes → get_or bytes place 0 ≡ LF → list_any (λ byte. byte == LF) bytes ≡ true
+lf_passes [] place within lf = absurd (omega arith)
+lf_passes (byte ∷ bytes) zero within lf = let first : (byte == LF) ≡ true = lf_is byte lf in rw first refl
+lf_passes (byte ∷ bytes) (suc place) within lf =
+    let later : list_any (λ b. b == LF) bytes ≡ true = lf_passes bytes place (omega arith) lf in
+    rw later (elim (byte == LF) as (λ b. (b || true) ≡ true) [ true ↦ refl | false ↦ refl ])
+
+-- whether a search found the first LF says whether there is one
+pub lf_found : (bytes : List ℕ) (found : Option ℕ) → MatchOption found (HasNoLf bytes) (IsFirstLf bytes) → is_some found ≡ list_any (λ byte. byte == LF) bytes
+lf_found bytes None none = sym (no_lf_passes bytes none)
+lf_found bytes (Some place) lf = sym (lf_passes bytes place lf.within lf.lf)

@@ -2,6 +2,7 @@ pub mod Slots
 pub mod Told
 pub mod Sending
 pub mod Lines
+pub mod Coming
 pub mod Refill
 pub mod Failures
 pub mod Untold

@@ -1,6 +1,8 @@
 -- What a reader of lines makes of the bytes that come to it.
-use Rattle.std.specs.Prelude.{◌≡◌, ◌≢◌, ℕ, ◌+◌, ◌-◌, ◌^◌, ◌<◌, ◌≤◌, min, Bool, true, false, List, [], ◌∷◌, ◌++◌, length, take, All, Option, Some, None, IfSome, Result, Ok, Err, slice_range}
+use Rattle.std.specs.Prelude.{◌≡◌, ℕ, ◌+◌, ◌-◌, ◌^◌, min, Bool, true, false, not, ◌&&◌, ◌||◌, ◌==◌, nat_lt, List, [], ◌∷◌, ◌++◌, length, Option, Some, None, IfSome, Result, Ok, Err, slice_range}
+use Rattle.std.specs.List.{list_any}
 use Rattle.std.specs.Io.KnownBytes.{prepend_known, IsAtEnd}
+pub use Rattle.vx_lines.specs.Cut.{HasNoLf, IsLine, IsTooLong, IsCutOff}
 use Rattle.vx_desk.specs.declared.device.Slot.{Slot}
 use Rattle.vx_desk.specs.declared.lines.Line.{Line}
 use Rattle.vx_desk.specs.declared.lines.ReadFault.{ReadFault}
@@ -26,26 +28,6 @@ pub record ReaderState : Type 0 where
 -- the bytes that are to come to the reader's caller: those that wait, then those left in its slot
 abbrev pub to_come : ReaderState → Told → Option (List ℕ)
 to_come reader told = prepend_known reader.waiting told.left
-
--- no byte is the end of a line
-abbrev pub HasNoLf : List ℕ → Type 0
-HasNoLf bytes = All (λ byte. byte ≢ LF) bytes
-
--- a line without its LF: at most `limit` bytes
-pub record IsLine (limit : ℕ) (bytes : List ℕ) : Type 0 where
-  pub fits : length bytes ≤ limit
-  pub no_lf : HasNoLf bytes
-
--- the bytes begin with `limit + 1` that have no LF
-pub record IsTooLong (limit : ℕ) (bytes : List ℕ) : Type 0 where
-  pub more : limit < length bytes
-  pub no_lf : HasNoLf (take (limit + 1) bytes)
-
--- the bytes are one or more, at most `limit`, with no LF
-pub record IsCutOff (limit : ℕ) (bytes : List ℕ) : Type 0 where
-  pub some : 0 < length bytes
-  pub fits : length bytes ≤ limit
-  pub no_lf : HasNoLf bytes
 
 -- the number of the line after this one; it stops at the last value of 64 bits
 abbrev pub next_number : ℕ → ℕ
@@ -80,6 +62,17 @@ Answers old new before after (Ok None) = GivesNone old new before after × (new.
 Answers old new before after (Err Device) = GivesNone old new before after × (old.is_ended ≡ false) × (new.is_ended ≡ false)
 Answers old new before after (Err (LineTooLong number)) = GivesNone old new before after × EndsReading old new number × IsTooLong old.limit new.waiting × IfSome before (IsTooLong old.limit)
 Answers old new before after (Err (NoEol number)) = GivesNone old new before after × EndsReading old new number × IsCutOff old.limit new.waiting × IfSome before (IsCutOff old.limit)
+
+-- a whole line waits, or so many bytes that the next line is too long
+abbrev pub holds_line : ReaderState → Bool
+holds_line reader =
+    not reader.is_ended && (nat_lt reader.limit (length reader.waiting) || list_any (λ byte. byte == LF) reader.waiting)
+
+-- a line, or the fault of one that has too many bytes
+abbrev pub IsLineOrLong : Result (Option Line) ReadFault → Type 0
+IsLineOrLong (Ok (Some _)) = Unit {0}
+IsLineOrLong (Err (LineTooLong _)) = Unit {0}
+IsLineOrLong _ = ⊥
 
 -- the count of failed reads rose where the device is named, and else is as it was
 abbrev pub CountsReads : Result (Option Line) ReadFault → ℕ → ℕ → Type 0

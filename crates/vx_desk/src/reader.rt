@@ -1,8 +1,10 @@
-ghost use Rattle.std.specs.Prelude.{◌≡◌, ◌+◌, ◌-◌, ◌<◌, ◌≤◌, length, slice_range, take, drop, slice_index, Some, None, true, false, [], ◌∷◌, ◌++◌, IsTrue, IfOk, MatchOption, OnOk, OnErr, ◌↔◌};
+ghost use Rattle.std.specs.Prelude.{◌≡◌, ◌+◌, ◌-◌, ◌<◌, ◌≤◌, length, slice_range, take, drop, slice_index, Some, None, true, false, [], ◌∷◌, ◌++◌, IsTrue, IfOk, MatchOption, OnOk, OnErr, ◌↔◌, ◌==◌};
+ghost use Rattle.std.specs.List.{list_any};
 ghost use Rattle.std.specs.Io.KnownBytes.{IsAtEnd};
 ghost use Rattle.vx_desk.specs.Slots.{IsReading};
 ghost use Rattle.vx_desk.specs.Told.{ChangesOnly, ChangesReads, Counts, Reads};
-ghost use Rattle.vx_desk.specs.Lines.{HasNoLf, Answers, CountsReads, to_come, next_number};
+ghost use Rattle.vx_desk.specs.Lines.{HasNoLf, Answers, CountsReads, IsLineOrLong, holds_line, to_come, next_number};
+ghost use Rattle.vx_desk.specs.Coming.{TakesLine, coming};
 ghost use Rattle.vx_desk.specs.Refill.{Refills, IsFirstLf, Cuts, EndsInput};
 ghost use Rattle.vx_desk.specs.declared.lines.TheConstants.{LF};
 
@@ -76,11 +78,15 @@ impl LineReader {
         })
     }
 
-    /// The next line of the slot, or `None` at the end of the input.
+    /// The next line of the slot, or `None` at the end of the input or behind a line that was no line. Where `holds_line` says that one is
+    /// in hand, the desk is not called.
+    #[tactic(auto, using(crate::proofs::ComingLemmas::takes_coming, crate::proofs::NextLemmas::ended_holds_none))]
     pub fn next<D: Desk>(&mut self, desk: &mut D) -> Result<Option<Line>, ReadFault>
         requires reading { IsReading self.old.slot }
         requires open { IsTrue (D.told desk.old self.old.slot).is_open }
         ensures answers { Answers self.old self.new (to_come self.old (D.told desk.old self.old.slot)) (to_come self.new (D.told desk.new self.old.slot)) result }
+        ensures takes { self.old.is_ended ≡ false → TakesLine (coming self.old (D.told desk.old)) (coming self.new (D.told desk.new)) self.new result }
+        ensures in_hand { holds_line self.old ≡ true → (desk.new ≡ desk.old) × IsLineOrLong result }
         ensures ended { self.old.is_ended ≡ true → result ≡ Ok None }
         ensures counts { CountsReads result (D.told desk.old self.old.slot).failed_reads (D.told desk.new self.old.slot).failed_reads }
         ensures rest { ChangesReads (D.told desk.old self.old.slot) (D.told desk.new self.old.slot) }
@@ -92,6 +98,23 @@ impl LineReader {
         if self.is_over() {
             return Ok(None);
         }
+        self.read_line(desk)
+    }
+
+    /// The next line of a reader that may give one.
+    fn read_line<D: Desk>(&mut self, desk: &mut D) -> Result<Option<Line>, ReadFault>
+        requires reading { IsReading self.old.slot }
+        requires open { IsTrue (D.told desk.old self.old.slot).is_open }
+        requires ready { self.old.is_ended ≡ false }
+        ensures answers { Answers self.old self.new (to_come self.old (D.told desk.old self.old.slot)) (to_come self.new (D.told desk.new self.old.slot)) result }
+        ensures in_hand { holds_line self.old ≡ true → (desk.new ≡ desk.old) × IsLineOrLong result }
+        ensures counts { CountsReads result (D.told desk.old self.old.slot).failed_reads (D.told desk.new self.old.slot).failed_reads }
+        ensures rest { ChangesReads (D.told desk.old self.old.slot) (D.told desk.new self.old.slot) }
+        ensures others { ChangesOnly self.old.slot (D.told desk.old) (D.told desk.new) }
+        ensures names { D.holds desk.new ≡ D.holds desk.old }
+        ensures slot { self.new.slot ≡ self.old.slot }
+        ensures limit { self.new.limit ≡ self.old.limit }
+    {
         let mut searched = 0;
         'fill: loop {
             if let Some(length) = self.find_lf(searched) {
@@ -107,6 +130,14 @@ impl LineReader {
                 Err(Failed) => return Err(ReadFault::Device),
             }
         }
+    }
+
+    /// Whether `next` has its answer in hand: a whole line, or so many bytes that the next line is too
+    /// long.
+    pub fn holds_line(&self) -> bool
+        ensures { result ≡ holds_line self.now }
+    {
+        !self.is_over() && (self.is_past_limit() || self.has_lf())
     }
 
     /// The bytes of the last line that `next` gave, also after later calls that gave none.
@@ -135,6 +166,12 @@ impl LineReader {
         ensures { IsTrue result ↔ (self.now.limit < length self.now.waiting) }
     {
         self.end - self.start > self.limit
+    }
+
+    fn has_lf(&self) -> bool
+        ensures { result ≡ list_any (λ byte. byte == LF) self.now.waiting }
+    {
+        self.find_lf(0).is_some()
     }
 
     /// Where the first LF of the waiting bytes is. The first `searched` of them have none.
@@ -191,7 +228,8 @@ impl LineReader {
         })
     }
 
-    /// Moves the last line and the waiting bytes to the front and reads behind them.
+    /// Reads behind the waiting bytes. Where no room is left there, the last line and they move to the
+    /// front first: so a byte moves twice at most, while its line comes and while it is the last.
     fn refill<D: Desk>(&mut self, desk: &mut D) -> Result<usize, Failed>
         requires reading { IsReading self.old.slot }
         requires open { IsTrue (D.told desk.old self.old.slot).is_open }
@@ -202,33 +240,47 @@ impl LineReader {
         ensures others { ChangesOnly self.old.slot (D.told desk.old) (D.told desk.new) }
         ensures names { D.holds desk.new ≡ D.holds desk.old }
     {
-        let outcome = read_behind(desk, self.slot, &mut self.buffer, self.kept, self.end);
-        self.start -= self.kept;
-        self.end -= self.kept;
-        self.kept = 0;
+        let down = make_room(&mut self.buffer, self.kept, self.end);
+        self.kept -= down;
+        self.start -= down;
+        self.end -= down;
+        let outcome = read_behind(desk, self.slot, &mut self.buffer, self.end);
         let count = outcome?;
         self.end += count;
         Ok(count)
     }
 }
 
-/// Moves the part of a buffer from `start` to `end` to the front and reads behind it.
+/// Moves the part of a buffer from `start` to `end` to the front where no room is left behind it, and
+/// answers by how many places it moved.
+fn make_room(buffer: &mut [u8], start: usize, end: usize) -> usize
+    requires ordered { start ≤ end }
+    requires within { end ≤ length buffer.old }
+    ensures down { result ≤ start }
+    ensures part { slice_range buffer.new (start - result) (end - result) ≡ slice_range buffer.old start end }
+    ensures room { end - start < length buffer.old → end - result < length buffer.old }
+{
+    if end < buffer.len() {
+        return 0;
+    }
+    buffer.copy_within(start..end, 0);
+    start
+}
+
+/// Reads into a buffer from a place on.
 fn read_behind<D: Desk>(
     desk: &mut D,
     slot: Slot,
     buffer: &mut [u8],
-    start: usize,
-    end: usize,
+    place: usize,
 ) -> Result<usize, Failed>
     requires reading { IsReading slot }
     requires open { IsTrue (D.told desk.old slot).is_open }
-    requires ordered { start ≤ end }
-    requires within { end ≤ length buffer.old }
-    ensures moved { take (end - start) buffer.new ≡ slice_range buffer.old start end }
-    ensures reads { Reads (drop (end - start) buffer.new) (D.told desk.old slot) (D.told desk.new slot) result }
+    requires within { place ≤ length buffer.old }
+    ensures front { take place buffer.new ≡ take place buffer.old }
+    ensures reads { Reads (drop place buffer.new) (D.told desk.old slot) (D.told desk.new slot) result }
     ensures others { ChangesOnly slot (D.told desk.old) (D.told desk.new) }
     ensures names { D.holds desk.new ≡ D.holds desk.old }
 {
-    buffer.copy_within(start..end, 0);
-    desk.read(slot, &mut buffer[end - start..])
+    desk.read(slot, &mut buffer[place..])
 }
