@@ -1,17 +1,17 @@
 -- What a value of JSON says where a certificate has a field. A reading gives what is said there, or
 -- None where the value has another form or lies out of range. This project's own format.
 use Rattle.std.specs.Prelude.{ℕ, ◌+◌, ◌-◌, ◌*◌, ◌^◌, ℤ, pos, negsuc, neg_ℤ, int_lt, ◌&&◌, ◌==◌, Bool, nat_lt, nat_le, int_le, List, [], ◌∷◌, length, slice_index, codes, if◌then◌else◌, Option, Some, None, option_map, option_and_then, unwrap_or, true}
-use Rattle.std.specs.Char.{is_ascii_digit}
 use Rattle.std.specs.Result.{result_ok}
 use Rattle.std.specs.List.{list_all, list_any}
 use Rattle.std.specs.Str.{bytes_eq}
 use Rattle.serde_json.specs.Data.{Data, Items, no_items, item, Members, no_members, member}
 use Rattle.serde_json.specs.Find.{get, as_number, as_u64, as_i64, as_str, as_array, as_object}
 use Rattle.vx_num.specs.Decimal as wide
+use Rattle.vx_clock.specs.Clock.{time_of_text}
 use Rattle.vx_clock.specs.Day.{day_of_text}
+use Rattle.vx_clock.specs.RootText.{root_of_text}
 use Rattle.vx_clock.specs.declared.days.DayNo.{DayNo}
 use Rattle.vx_clock.specs.declared.terms.Root.{Root}
-use Rattle.vx_clock.specs.declared.terms.Root.TheVariants.{Spx, Spxw}
 use Rattle.vx_cert.specs.declared.certificate.Ends.{Ends}
 use Rattle.vx_cert.specs.declared.certificate.Pair.{Pair}
 use Rattle.vx_cert.specs.declared.rows.CertRow.{CertRow}
@@ -35,40 +35,17 @@ signed_of low high d =
     option_and_then (λ z. if int_le low z && int_le z high then Some z else None)
     (option_and_then as_i64 (as_number d))
 
--- the root that a text names
-abbrev pub root_named : List ℕ → Option Root
-root_named text =
-    if bytes_eq text (codes "SPX") then Some Spx
-    else (if bytes_eq text (codes "SPXW") then Some Spxw else None)
-
+-- the root that is named
 abbrev pub root_of : Data → Option Root
-root_of d = option_and_then root_named (as_str d)
+root_of d = option_and_then root_of_text (as_str d)
 
 -- a day `yyyy-mm-dd` of the years 2000 to 2099
 abbrev pub date_of : Data → Option DayNo
 date_of d = option_and_then (λ text. result_ok (day_of_text text)) (as_str d)
 
--- the number that two digits write; 48 is the byte of `0`
-abbrev pub two_digits : ℕ → ℕ → Option ℕ
-two_digits tens ones =
-    if is_ascii_digit tens && is_ascii_digit ones then Some ((tens - 48) * 10 + (ones - 48)) else None
-
--- the minute of the day, of an hour below 24 and a minute below 60
-abbrev pub minute_at : ℕ → ℕ → Option ℕ
-minute_at hour minute =
-    if nat_lt hour 24 && nat_lt minute 60 then Some (60 * hour + minute) else None
-
--- the minute of the day that a text `hh:mm` names; 58 is the byte of `:`
-abbrev pub minute_named : List ℕ → Option ℕ
-minute_named text =
-    if (length text == 5) && (slice_index text 2 == 58)
-    then option_and_then (λ hour. option_and_then (minute_at hour)
-    (two_digits (slice_index text 3) (slice_index text 4)))
-    (two_digits (slice_index text 0) (slice_index text 1))
-    else None
-
+-- the minute of the day that a text `hh:mm` names
 abbrev pub time_of : Data → Option ℕ
-time_of d = option_and_then minute_named (as_str d)
+time_of d = option_and_then time_of_text (as_str d)
 
 -- the values of a list in order
 abbrev pub list_of_items : Items → List Data

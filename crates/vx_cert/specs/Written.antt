@@ -8,9 +8,8 @@ use Rattle.serde_json.specs.Written.{compact_text}
 use Rattle.vx_num.specs.Written.{wide_text}
 use Rattle.vx_clock.specs.Clock.{clock_text}
 use Rattle.vx_clock.specs.DayText.{day_text}
+use Rattle.vx_clock.specs.RootText.{bare_root_text}
 use Rattle.vx_clock.specs.declared.terms.Expiry.{Expiry}
-use Rattle.vx_clock.specs.declared.terms.Root.{Root}
-use Rattle.vx_clock.specs.declared.terms.Root.TheVariants.{Spx, Spxw}
 use Rattle.vx_cert.specs.declared.certificate.Ends.{Ends}
 use Rattle.vx_cert.specs.declared.certificate.Pair.{Pair}
 use Rattle.vx_cert.specs.declared.certificate.CertTerm.{CertTerm}
@@ -40,10 +39,6 @@ signed_number z = number (of_integer z)
 -- a wide number is a text
 abbrev pub wide_number : ℤ → Data
 wide_number z = string (wide_text z)
-
-abbrev pub root_name : Root → List ℕ
-root_name Spx = codes "SPX"
-root_name Spxw = codes "SPXW"
 
 abbrev pub pair_data : Pair → Data
 pair_data pair = list_from (whole_number pair.strike ∷ signed_number pair.d ∷ [])
@@ -80,7 +75,7 @@ term_data term = object_from (
     ∷ (codes "minutes", whole_number term.minutes)
     ∷ (codes "pair", pair_data term.pair)
     ∷ (codes "rate", signed_number term.rate)
-    ∷ (codes "root", string (root_name term.expiry.root))
+    ∷ (codes "root", string (bare_root_text term.expiry.root))
     ∷ (codes "rows", rows_data term.rows)
     ∷ (codes "s", ends_data term.s)
     ∷ (codes "w", ends_data term.w)
@@ -94,7 +89,7 @@ level_data c expiry pair k0 = object_from (
     ∷ (codes "kind", string (codes "k0"))
     ∷ (codes "line", whole_number c.line)
     ∷ (codes "pair", pair_data pair)
-    ∷ (codes "root", string (root_name expiry.root))
+    ∷ (codes "root", string (bare_root_text expiry.root))
     ∷ (codes "time", string (clock_text c.time))
     ∷ (codes "v", whole_number c.v)
     ∷ [])

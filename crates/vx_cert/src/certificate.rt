@@ -1,3 +1,5 @@
+//! What a certificate states.
+
 use crate::rows::CertRows;
 use vx_clock::Expiry;
 

@@ -1,4 +1,7 @@
+//! What can go wrong where a certificate is read.
+
 use thiserror::Error;
+use vx_num::NoMemory;
 
 /// Why a line is no certificate.
 #[derive(Clone, Copy, Debug, PartialEq, Eq, Error)]
@@ -12,4 +15,15 @@ pub enum CertFault {
     /// range.
     #[error("field {0} is missing, of another form or out of range")]
     Field(u32),
+}
+
+impl From<NoMemory> for CertFault {
+    ghost use Rattle.std.specs.Prelude.{◌≡◌};
+    ghost use Rattle.vx_cert.specs.declared.fault.CertFault.TheVariants.{NoMemory as no_memory};
+
+    ghost from_gives = { λ _ fault. fault ≡ no_memory };
+
+    fn from(_refused: NoMemory) -> CertFault {
+        CertFault::NoMemory
+    }
 }

@@ -7,14 +7,14 @@ ghost use Rattle.std.specs.List.{list_all};
 ghost use Rattle.serde_json.specs.View.{view};
 ghost use Rattle.vx_clock.specs.Day.{day_of_text};
 ghost use Rattle.vx_cert.specs.declared.limits.TheConstants.{TAYLOR_TERMS};
-ghost use Rattle.vx_cert.specs.Form.{whole_of, signed_of, root_of, date_of, time_of, minute_named, minute_at, two_digits, list_of, pair_of, has_only, is_among, word_of, kind_of, wide_of, part_of, index_end_of, ends_of, index_ends_of, row_of, taylor_named, taylor_of, all_read, rows_of};
+ghost use Rattle.vx_cert.specs.Form.{whole_of, signed_of, root_of, date_of, time_of, list_of, pair_of, has_only, is_among, word_of, kind_of, wide_of, part_of, index_end_of, ends_of, index_ends_of, row_of, taylor_named, taylor_of, all_read, rows_of};
 
 use crate::certificate::{Ends, Pair};
 use crate::limits::{END_BITS, ROWS_MAX, TAYLOR_TERMS};
 use crate::rows::{CertRow, CertRows};
 use serde_json::{Map, Value};
 use std::alloc::Global;
-use vx_clock::{DayNo, Root, read_day};
+use vx_clock::{DayNo, Root, read_clock, read_day};
 use vx_num::{NoMemory, read_wide};
 
 /// The Taylor terms of an exponential on one side.
@@ -73,13 +73,7 @@ pub fn root(value: &Value) -> Option<Root>
     ensures { result ≡ root_of (view value.now) }
 {
     let text = value.as_str()?;
-    if text == "SPX" {
-        Some(Root::Spx)
-    } else if text == "SPXW" {
-        Some(Root::Spxw)
-    } else {
-        None
-    }
+    Root::named(text.as_bytes())
 }
 
 /// A day `yyyy-mm-dd` of the years 2000 to 2099.
@@ -95,32 +89,7 @@ pub fn time(value: &Value) -> Option<u16>
     ensures { result ≡ time_of (view value.now) }
 {
     let text = value.as_str()?;
-    minute(text.as_bytes())
-}
-
-fn minute(text: &[u8]) -> Option<u16>
-    ensures { result ≡ minute_named text.now }
-{
-    if text.len() != 5 || text[2] != b':' {
-        return None;
-    }
-    let hour = two_digit_number(text[0], text[1])?;
-    let minute = two_digit_number(text[3], text[4])?;
-    if hour < 24 && minute < 60 {
-        Some(60 * hour + minute)
-    } else {
-        None
-    }
-}
-
-fn two_digit_number(tens: u8, ones: u8) -> Option<u16>
-    ensures { result ≡ two_digits tens ones }
-{
-    if tens.is_ascii_digit() && ones.is_ascii_digit() {
-        Some(u16::from(tens - b'0') * 10 + u16::from(ones - b'0'))
-    } else {
-        None
-    }
+    read_clock(text.as_bytes())
 }
 
 /// The values of a list.

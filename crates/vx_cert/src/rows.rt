@@ -1,3 +1,5 @@
+//! The rows of a certificate's strip.
+
 ghost use Rattle.std.specs.Prelude.{◌≡◌, List, [], ◌∷◌, ◌++◌, OnOk, OnErr};
 
 use std::alloc::Global;
@@ -49,7 +51,8 @@ impl CertRows {
         ensures ok { OnOk result (self.new ≡ self.old ++ item ∷ []) }
         ensures err { OnErr result (self.new ≡ self.old) }
     {
-        self.list.push(item).map_err(|_| NoMemory)
+        self.list.push(item)?;
+        Ok(())
     }
 
     /// The rows in order.

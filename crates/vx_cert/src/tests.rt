@@ -1,3 +1,5 @@
+//! Certificates that are read, and lines that are none.
+
 use crate::{CertBody, CertFault, CertRow, CertRows, Pair, read_cert};
 use std::test::Fail;
 use vx_clock::{DayNo, Expiry, Root};

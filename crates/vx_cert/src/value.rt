@@ -6,8 +6,9 @@ ghost use Rattle.serde_json.specs.View.{view, members_view};
 ghost use Rattle.vx_clock.specs.Clock.{clock_text};
 ghost use Rattle.vx_clock.specs.Day.{IsDayInRange};
 ghost use Rattle.vx_clock.specs.DayText.{day_text};
+ghost use Rattle.vx_clock.specs.RootText.{bare_root_text};
 ghost use Rattle.vx_clock.specs.declared.limits.TheConstants.{MINUTE_MAX};
-ghost use Rattle.vx_cert.specs.Written.{ends_data, pair_data, root_name, row_data, rows_data, taylor_data, taylor_pair_data, two_wide, wide_number};
+ghost use Rattle.vx_cert.specs.Written.{ends_data, pair_data, row_data, rows_data, taylor_data, taylor_pair_data, two_wide, wide_number};
 
 use crate::certificate::{Ends, Pair};
 use crate::form::TaylorTerms;
@@ -50,12 +51,9 @@ pub fn name(alloc: Global, text: &str) -> Result<Value, NoMemory>
 
 /// `SPX` or `SPXW`.
 pub fn root(alloc: Global, root: Root) -> Result<Value, NoMemory>
-    ensures { IfOk result (λ v. view v ≡ string (root_name root)) }
+    ensures { IfOk result (λ v. view v ≡ string (bare_root_text root)) }
 {
-    match root {
-        Root::Spx => name(alloc, "SPX"),
-        Root::Spxw => name(alloc, "SPXW"),
-    }
+    name(alloc, root.name())
 }
 
 /// A day as `yyyy-mm-dd`.
@@ -137,7 +135,8 @@ pub fn taylor(alloc: Global, low: &TaylorTerms, high: &TaylorTerms) -> Result<Va
 fn push(values: &mut Vec<Value>, value: Value) -> Result<(), NoMemory>
     ensures { OnOk result (map view values.new.items ≡ map view values.old.items ++ view value ∷ []) }
 {
-    values.push(value).map_err(|_| NoMemory)
+    values.push(value)?;
+    Ok(())
 }
 
 /// A row: strike, doubled width, price and two ends.

@@ -31,7 +31,8 @@ pub fn write_cert(alloc: Global, c: &Certificate, out: &mut Vec<u8>) -> Result<(
     ensures value { OnOk result (IsValueOf (compact_text (certificate_data c.now)) (certificate_data c.now)) }
 {
     let line = line_of(alloc, c)?;
-    out.extend_from_slice(line.as_bytes()).map_err(|_| NoMemory)
+    out.extend_from_slice(line.as_bytes())?;
+    Ok(())
 }
 
 /// The line of a certificate, with its LF.
@@ -61,7 +62,7 @@ fn ended(text: String) -> Result<String, NoMemory>
     ensures { IfOk result (λ line. string_bytes line ≡ string_bytes text ++ 10 ∷ []) }
 {
     let mut line = text;
-    line.push('\n').map_err(|_| NoMemory)?;
+    line.push('\n')?;
     Ok(line)
 }
 

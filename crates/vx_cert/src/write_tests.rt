@@ -1,3 +1,5 @@
+//! A certificate that is written.
+
 use crate::{CertBody, Certificate, Pair, write_cert};
 use std::test::Fail;
 use vx_clock::{DayNo, Expiry, Root};

@@ -3,4 +3,5 @@ pub mod Day
 pub mod Clock
 pub mod Minutes
 pub mod Terms
+pub mod RootText
 pub mod DayText

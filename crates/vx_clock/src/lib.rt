@@ -11,7 +11,7 @@ pub mod terms;
 #[cfg(test)]
 mod tests;
 
-pub use clock::write_clock;
+pub use clock::{read_clock, write_clock};
 pub use days::{DayFault, DayNo, date_of, day_of, read_day, write_day};
 pub use picking::pick_terms;
 pub use terms::{Expiry, Moment, NoTerm, Root, minutes_to};

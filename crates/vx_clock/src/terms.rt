@@ -1,3 +1,5 @@
+//! Roots, terms, and the minutes to a term's settlement.
+
 ghost use Rattle.std.specs.Prelude.{◌≡◌, ◌≤◌, pos, ◌≤ℤ◌};
 ghost use Rattle.vx_clock.specs.Minutes.{days_until, minutes_between};
 
@@ -17,7 +19,31 @@ pub enum Root {
 }
 
 impl Root {
+    ghost use Rattle.vx_clock.specs.RootText.{bare_root_text, root_of_text};
     ghost use Rattle.vx_clock.specs.Terms.{root_rank};
+
+    /// Its name, `SPX` or `SPXW`.
+    pub fn name(self) -> &'static str
+        ensures { result.now ≡ bare_root_text self }
+    {
+        match self {
+            Root::Spx => "SPX",
+            Root::Spxw => "SPXW",
+        }
+    }
+
+    /// The root of that name, or `None` where no root has it.
+    pub fn named(name: &[u8]) -> Option<Root>
+        ensures { result ≡ root_of_text name.now }
+    {
+        if name == b"SPX".as_slice() {
+            Some(Root::Spx)
+        } else if name == b"SPXW".as_slice() {
+            Some(Root::Spxw)
+        } else {
+            None
+        }
+    }
 
     /// The order of roots on one date.
     pub(crate) fn rank(self) -> u8

@@ -18,6 +18,7 @@ use Rattle.vx_feed.specs.Order.{first_fault, has_too_many_expiries, has_too_many
 use Rattle.vx_feed.specs.Noted.{CanList, CanTake, MayNote, StandsFor, is_new_strike, keeps, kept_strikes}
 use Rattle.vx_feed.proofs.StrikeLemmas.{has_strike, has-strike_of}
 use Rattle.vx_feed.proofs.KeptLemmas.{any-kept}
+use Rattle.vx_feed.proofs.NoCauses.{HasNoCause, no_causes}
 
 -- ---- the first of the causes
 
@@ -50,35 +51,6 @@ same_causes before e a b c d f g h i j k pa pb pc pd pf pg ph pi pj pk =
     step {p} {q} {x} {y} f same more = ap (λ t. cond t (Some f) x) same ∙ ap (λ o. cond q (Some f) o) more
 
 -- ---- no fault
-
-abbrev NoneHold : List (Bool × FeedFault) → Type 0
-NoneHold [] = Unit {0}
-NoneHold (c ∷ causes) = (c.0 ≡ false) × NoneHold causes
-
-none_step : (b : Bool) (f : FeedFault) (rest : Option FeedFault) → cond b (Some f) rest ≡ None → (b ≡ false) × (rest ≡ None)
-none_step true f rest h = cc
-none_step false f rest h = (refl, h)
-
-none_hold : (causes : List (Bool × FeedFault)) → first_fault causes ≡ None → NoneHold causes
-none_hold [] h = tt
-none_hold (c ∷ causes) h = let parts = none_step c.0 c.1 (first_fault causes) h in (parts.0, none_hold causes parts.1)
-
--- the tests that a taken event passes
-record Passes (before : List Event) (e : Event) : Type 0 where
-  placed : is_misplaced before e ≡ false
-  new_series : is_duplicate_series before e ≡ false
-  declared : is_undeclared before e ≡ false
-  few : is_too_many before e ≡ false
-
-passes : (before : List Event) (e : Event) → order_fault before e ≡ None → Passes before e
-passes before e h =
-    let none = none_hold (order_causes before e) h in
-    record {
-      placed = none.0;
-      new_series = none.1.1.1.1.0;
-      declared = none.1.1.1.1.1.0;
-      few = none.1.1.1.1.1.1.0;
-    }
 
 -- a header is the first line
 header_first : (before : List Event) (day : DayNo) → is_misplaced before (event.Header day) ≡ false → trade_date before ≡ None
@@ -115,7 +87,7 @@ unlisted_strike order events s stands unlisted other =
     either true b h i = cc
     either false b h i = i
 
-can_list : (order : Order) (events : List Event) (s : Symbol) → StandsFor order events → Passes events (event.Series s) → CanList order s
+can_list : (order : Order) (events : List Event) (s : Symbol) → StandsFor order events → HasNoCause events (event.Series s) → CanList order s
 can_list order events s stands pass = record {
   unlisted = stands.series s ∙ pass.new_series;
   declared = declared_by order events (expiry_of s) stands ∙ not-false (is_declared (expiry_of s) events) pass.declared;
@@ -127,7 +99,7 @@ can_list order events s stands pass = record {
       omega arith;
 }
 
-can_take_by : (order : Order) (events : List Event) (e : Event) → StandsFor order events → Passes events e → CanTake order e
+can_take_by : (order : Order) (events : List Event) (e : Event) → StandsFor order events → HasNoCause events e → CanTake order e
 can_take_by order events (event.Header day) stands pass = stands.day ∙ header_first events day pass.placed
 can_take_by order events (event.Series s) stands pass = can_list order events s stands pass
 can_take_by order events (event.Expiry x) stands pass = tt
@@ -140,11 +112,11 @@ can_take_by order events (event.End count) stands pass = tt
 
 -- what may be noted can be taken up, and there is room for its line
 pub can_take : (order : Order) (e : Event) → MayNote order e → CanTake order e
-can_take order e may = can_take_by order may.0 e may.1 (passes may.0 e (may.2).in_order)
+can_take order e may = can_take_by order may.0 e may.1 (no_causes may.0 e (may.2).in_order)
 
 pub room_for_line : (order : Order) (e : Event) → MayNote order e → order.lines < LINES_MAX
 room_for_line order e may =
-    let few : length may.0 < LINES_MAX = few_lines may.0 e (passes may.0 e (may.2).in_order).few in
+    let few : length may.0 < LINES_MAX = few_lines may.0 e (no_causes may.0 e (may.2).in_order).few in
     let same : order.lines ≡ length may.0 = (may.1).lines in
     omega arith
 

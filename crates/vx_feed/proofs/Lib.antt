@@ -4,5 +4,11 @@ pub mod SameLemmas
 pub mod StrikeLemmas
 pub mod KeptLemmas
 pub mod OrderLemmas
+pub mod NoCauses
 pub mod FaultLemmas
 pub mod ReadLemmas
+pub mod CauseLemmas
+pub mod LawfulLists
+pub mod EndLaws
+pub mod RisingStrikes
+pub mod NextRows

@@ -31,10 +31,13 @@ use Rattle.vx_feed.specs.declared.events.Event.{Event}
 use Rattle.vx_feed.specs.declared.events.Event.TheVariants as event
 use Rattle.vx_feed.specs.declared.kinds.Kind.TheVariants as kind
 use Rattle.vx_feed.specs.Feed.{event_of_line, event_in_order, event_unless}
-use Rattle.vx_feed.specs.Form.{event_of_fields, date_of_text, root_of_text, time_of_text, rate_of_text, price_of_text, if_positive, count_of_text, series_of_text, kind_text}
+use Rattle.vx_clock.specs.Clock.{time_of_text}
+use Rattle.vx_clock.specs.RootText.{root_of_text}
+use Rattle.vx_feed.specs.Form.{event_of_fields, date_of_text, rate_of_text, price_of_text, if_positive, count_of_text, series_of_text, kind_text}
 use Rattle.vx_feed.specs.Order.{IsLawfulNext, order_fault}
 use Rattle.vx_feed.specs.Ranges.{IsInRange}
-use Rattle.vx_feed.specs.Written.{bare_root_text, behind_commas, event_line, kind_of_event, price_text, rate_text, value_fields}
+use Rattle.vx_clock.specs.RootText.{bare_root_text}
+use Rattle.vx_feed.specs.Written.{behind_commas, event_line, kind_of_event, price_text, rate_text, value_fields}
 
 -- ---- the bytes of fields
 

@@ -4,12 +4,12 @@ use Rattle.std.specs.Prelude.{ℕ, ◌+◌, ◌-◌, ◌*◌, Bool, true, false,
 use Rattle.std.specs.Option.{option_map}
 use Rattle.std.specs.Result.{result_ok}
 use Rattle.vx_num.specs.Decimal.{decimal_of}
+use Rattle.vx_clock.specs.Clock.{time_of_text}
 use Rattle.vx_clock.specs.Day.{day_of_text}
-use Rattle.vx_clock.specs.Digits.{are_digits, digits_value}
+use Rattle.vx_clock.specs.RootText.{root_of_text}
 use Rattle.vx_clock.specs.declared.days.DayNo.{DayNo}
 use Rattle.vx_clock.specs.declared.limits.TheConstants.{RATE_MIN, RATE_MAX}
 use Rattle.vx_clock.specs.declared.terms.Root.{Root}
-use Rattle.vx_clock.specs.declared.terms.Root.TheVariants.{Spx, Spxw}
 use Rattle.vx_symbol.specs.Symbol.{symbol_of_text}
 use Rattle.vx_symbol.specs.declared.limits.TheConstants.{PRICE_MAX}
 use Rattle.vx_symbol.specs.declared.symbols.Symbol.{Symbol}
@@ -63,31 +63,9 @@ field_count kind.End = 2
 abbrev pub is_version : List ℕ → Bool
 is_version text = bytes_eq text (codes "1")
 
--- a root, not padded
-abbrev pub root_of_text : List ℕ → Option Root
-root_of_text text =
-    if bytes_eq text (codes "SPX") then Some Spx
-    else (if bytes_eq text (codes "SPXW") then Some Spxw else None)
-
 -- a date `yyyy-mm-dd` of the years 2000 to 2099
 abbrev pub date_of_text : List ℕ → Option DayNo
 date_of_text text = result_ok (day_of_text text)
-
--- the text is of the form `hh:mm`; 58 is the byte of `:`
-abbrev pub has_time_form : List ℕ → Bool
-has_time_form text =
-    (length text == 5) && (slice_index text 2 == 58) && are_digits (take 2 text)
-    && are_digits (slice_range text 3 5)
-
--- the minute of the day that an hour and a minute make, where there is one
-abbrev pub minute_of : ℕ → ℕ → Option ℕ
-minute_of hour minute = if nat_le hour 23 && nat_le minute 59 then Some (60 * hour + minute) else None
-
--- a time from `00:00` to `23:59`, as the minute of the day
-abbrev pub time_of_text : List ℕ → Option ℕ
-time_of_text text =
-    if has_time_form text then minute_of (digits_value (take 2 text)) (digits_value (slice_range text 3 5))
-    else None
 
 -- a rate in percent per year of at most 6 places, in 10^-8 per year: from 0 to 25, or after a `-` from
 -- 0 to 5; 45 is the byte of `-`

@@ -9,4 +9,6 @@ pub mod Form
 pub mod Feed
 pub mod Noted
 pub mod Next
+pub mod NextEvents
+pub mod NextRows
 pub mod Written

@@ -4,9 +4,8 @@ use Rattle.std.specs.Prelude.{ℕ, suc, ℤ, pos, negsuc, List, [], ◌∷◌, �
 use Rattle.vx_num.specs.Written.{decimal_text}
 use Rattle.vx_clock.specs.Clock.{clock_text}
 use Rattle.vx_clock.specs.DayText.{day_text}
+use Rattle.vx_clock.specs.RootText.{bare_root_text}
 use Rattle.vx_clock.specs.declared.terms.Expiry.{Expiry}
-use Rattle.vx_clock.specs.declared.terms.Root.{Root}
-use Rattle.vx_clock.specs.declared.terms.Root.TheVariants.{Spx, Spxw}
 use Rattle.vx_symbol.specs.SymbolText.{symbol_text}
 use Rattle.vx_fields.specs.Lines.{comma, line_feed}
 use Rattle.vx_feed.specs.declared.events.Event.{Event}
@@ -18,11 +17,6 @@ use Rattle.vx_feed.specs.Form.{kind_text}
 -- the version that is written
 abbrev pub version_text : List ℕ
 version_text = codes "1"
-
--- a root, not padded
-abbrev pub bare_root_text : Root → List ℕ
-bare_root_text Spx = codes "SPX"
-bare_root_text Spxw = codes "SPXW"
 
 -- a rate, in 10^-8 per year, as percent per year with six places, behind a `-` where it is below zero;
 -- 45 is the byte of `-`

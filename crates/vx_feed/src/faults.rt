@@ -1,4 +1,7 @@
+//! What can go wrong where a line of a feed is read.
+
 use thiserror::Error;
+use vx_num::NoMemory;
 
 /// Why a line is no lawful next line of a feed.
 ///
@@ -49,4 +52,15 @@ pub enum FeedFault {
     /// A second opening.
     #[error("a second opening")]
     SecondOpening,
+}
+
+impl From<NoMemory> for FeedFault {
+    ghost use Rattle.std.specs.Prelude.{◌≡◌};
+    ghost use Rattle.vx_feed.specs.declared.faults.FeedFault.TheVariants.{NoMemory as no_memory};
+
+    ghost from_gives = { λ _ fault. fault ≡ no_memory };
+
+    fn from(_refused: NoMemory) -> FeedFault {
+        FeedFault::NoMemory
+    }
 }

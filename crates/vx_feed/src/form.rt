@@ -6,14 +6,14 @@ ghost use Rattle.vx_symbol.specs.Rows.{IsRateInRange};
 ghost use Rattle.vx_symbol.specs.Symbol.{IsSymbolInRange};
 ghost use Rattle.vx_feed.specs.Form as spec;
 ghost use Rattle.vx_feed.specs.declared.kinds.Kind.TheVariants as kind;
-ghost use Rattle.vx_feed.specs.Ranges.{IsInRange, IsMinute, IsPrice};
+ghost use Rattle.vx_feed.specs.Ranges.{IsInRange, IsPrice};
 
 use crate::events::Event;
 use crate::faults::FeedFault;
 use crate::kinds::{Kind, kind_of};
 use crate::limits::LINES_MAX;
 use vx_clock::limits::{RATE_MAX, RATE_MIN};
-use vx_clock::{DayNo, Expiry, Root, digits, read_day};
+use vx_clock::{DayNo, Expiry, Root, read_clock, read_day};
 use vx_fields::Fields;
 use vx_num::read_decimal;
 use vx_symbol::limits::PRICE_MAX;
@@ -24,18 +24,6 @@ pub(crate) const RATE_PLACES: u32 = 6;
 
 /// The places of a price in points: one unit is a cent.
 pub(crate) const PRICE_PLACES: u32 = 2;
-
-fn read_root(text: &[u8]) -> Option<Root>
-    ensures { result ≡ spec.root_of_text text.now }
-{
-    if text == b"SPX".as_slice() {
-        Some(Root::Spx)
-    } else if text == b"SPXW".as_slice() {
-        Some(Root::Spxw)
-    } else {
-        None
-    }
-}
 
 fn read_date(text: &[u8]) -> Option<DayNo>
     ensures value { result ≡ spec.date_of_text text.now }
@@ -49,22 +37,6 @@ fn read_series(text: &[u8]) -> Option<Symbol>
     ensures in_range { IfSome result IsSymbolInRange }
 {
     read_symbol(text).ok()
-}
-
-// A time `hh:mm`, as the minute of the day.
-fn read_time(text: &[u8]) -> Option<u16>
-    ensures value { result ≡ spec.time_of_text text.now }
-    ensures in_range { IfSome result IsMinute }
-{
-    if text.len() != 5 || text[2] != b':' {
-        return None;
-    }
-    let hour = digits::number(&text[..2])?;
-    let minute = digits::number(&text[3..5])?;
-    if hour > 23 || minute > 59 {
-        return None;
-    }
-    Some((60 * hour + minute) as u16)
 }
 
 // A rate in percent per year, in 10^-8 per year.
@@ -129,7 +101,7 @@ fn read_expiry(fields: &Fields<'_>) -> Result<Event, FeedFault>
     ensures value { result ≡ spec.event_of_kind kind.Expiry fields.now }
     ensures in_range { IfOk result IsInRange }
 {
-    let root = read_root(fields.field(1)).ok_or(FeedFault::Field(2))?;
+    let root = Root::named(fields.field(1)).ok_or(FeedFault::Field(2))?;
     let date = read_date(fields.field(2)).ok_or(FeedFault::Field(3))?;
     Ok(Event::Expiry(Expiry { root, date }))
 }
@@ -139,7 +111,7 @@ fn read_rate_line(fields: &Fields<'_>) -> Result<Event, FeedFault>
     ensures value { result ≡ spec.event_of_kind kind.Rate fields.now }
     ensures in_range { IfOk result IsInRange }
 {
-    let root = read_root(fields.field(1)).ok_or(FeedFault::Field(2))?;
+    let root = Root::named(fields.field(1)).ok_or(FeedFault::Field(2))?;
     let date = read_date(fields.field(2)).ok_or(FeedFault::Field(3))?;
     let rate = read_rate(fields.field(3)).ok_or(FeedFault::Field(4))?;
     let expiry = Expiry { root, date };
@@ -160,7 +132,7 @@ fn read_quote(fields: &Fields<'_>) -> Result<Event, FeedFault>
     ensures value { result ≡ spec.event_of_kind kind.Quote fields.now }
     ensures in_range { IfOk result IsInRange }
 {
-    let time = read_time(fields.field(1)).ok_or(FeedFault::Field(2))?;
+    let time = read_clock(fields.field(1)).ok_or(FeedFault::Field(2))?;
     let symbol = read_series(fields.field(2)).ok_or(FeedFault::Field(3))?;
     let bid = read_price(fields.field(3)).ok_or(FeedFault::Field(4))?;
     let ask = read_price(fields.field(4)).ok_or(FeedFault::Field(5))?;
@@ -177,7 +149,7 @@ fn read_trade(fields: &Fields<'_>) -> Result<Event, FeedFault>
     ensures value { result ≡ spec.event_of_kind kind.Trade fields.now }
     ensures in_range { IfOk result IsInRange }
 {
-    let time = read_time(fields.field(1)).ok_or(FeedFault::Field(2))?;
+    let time = read_clock(fields.field(1)).ok_or(FeedFault::Field(2))?;
     let symbol = read_series(fields.field(2)).ok_or(FeedFault::Field(3))?;
     let price = read_trade_price(fields.field(3)).ok_or(FeedFault::Field(4))?;
     Ok(Event::Trade {
@@ -192,7 +164,7 @@ fn read_tick(fields: &Fields<'_>) -> Result<Event, FeedFault>
     ensures value { result ≡ spec.event_of_kind kind.Tick fields.now }
     ensures in_range { IfOk result IsInRange }
 {
-    let time = read_time(fields.field(1)).ok_or(FeedFault::Field(2))?;
+    let time = read_clock(fields.field(1)).ok_or(FeedFault::Field(2))?;
     Ok(Event::Tick { time })
 }
 
@@ -201,7 +173,7 @@ fn read_opening(fields: &Fields<'_>) -> Result<Event, FeedFault>
     ensures value { result ≡ spec.event_of_kind kind.Opening fields.now }
     ensures in_range { IfOk result IsInRange }
 {
-    let time = read_time(fields.field(1)).ok_or(FeedFault::Field(2))?;
+    let time = read_clock(fields.field(1)).ok_or(FeedFault::Field(2))?;
     Ok(Event::Opening { time })
 }
 

@@ -5,7 +5,7 @@ pub mod events;
 pub mod faults;
 mod form;
 pub mod kinds;
-pub mod laws;
+mod laws;
 pub mod limits;
 mod order;
 mod read;
@@ -13,6 +13,10 @@ mod write;
 
 pub use events::Event;
 pub use faults::FeedFault;
+pub use laws::{
+    faults_by_cause, first_cause_is_answered, lawful_lists, next_listing, next_opening, next_rows,
+    next_standing,
+};
 pub use order::{Declared, Order};
 pub use read::{event_of_fields, line_fault, read_event};
 pub use write::write_event;

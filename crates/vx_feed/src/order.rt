@@ -150,7 +150,7 @@ impl Order {
             latest: 0,
             ended: false,
             opened: false,
-            expiries: Vec::with_capacity(alloc, EXPIRIES_MAX).map_err(|_| NoMemory)?,
+            expiries: Vec::with_capacity(alloc, EXPIRIES_MAX)?,
             series: HashSet::new(alloc),
         })
     }
@@ -325,7 +325,7 @@ impl Order {
         ensures refused { OnErr result (IsSameOrder self.old self.new) }
     {
         let has_strike = self.is_listed(&other_side(symbol));
-        self.series.insert(*symbol).map_err(|_| NoMemory)?;
+        self.series.insert(*symbol)?;
         if has_strike {
             return Ok(());
         }
@@ -339,7 +339,7 @@ impl Order {
         ensures refused { OnErr result (IsSameOrder self.old self.new) }
     {
         let declared = Declared { expiry, strikes: 0 };
-        self.expiries.push(declared).map_err(|_| NoMemory)?;
+        self.expiries.push(declared)?;
         Ok(())
     }
 

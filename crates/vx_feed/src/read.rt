@@ -58,8 +58,8 @@ pub fn read_event(alloc: Global, line: &[u8], seen: &Order) -> Result<Event, Fee
         return Err(FeedFault::Byte);
     }
     let mut block = LineBlock::new(alloc);
-    block.push(line).map_err(|_| FeedFault::NoMemory)?;
+    block.push(line)?;
     let mut table = FieldTable::new(alloc);
-    table.fill(&block).map_err(|_| FeedFault::NoMemory)?;
+    table.fill(&block)?;
     event_of_fields(&table.line(0), seen)
 }

@@ -13,7 +13,7 @@ ghost use Rattle.vx_feed.specs.Feed.{event_of_line};
 ghost use Rattle.vx_feed.specs.Form.{kind_text};
 ghost use Rattle.vx_feed.specs.Order.{IsLawfulNext};
 ghost use Rattle.vx_feed.specs.Ranges.{IsInRange};
-ghost use Rattle.vx_feed.specs.Written.{bare_root_text, behind_commas, event_line, event_text, expiry_fields, kind_of_event, price_text, rate_text, value_fields};
+ghost use Rattle.vx_feed.specs.Written.{behind_commas, event_line, event_text, expiry_fields, kind_of_event, price_text, rate_text, value_fields};
 
 use crate::events::Event;
 use crate::form::{PRICE_PLACES, RATE_PLACES};
@@ -41,13 +41,15 @@ pub fn write_event(alloc: Global, e: &Event, out: &mut Vec<u8>) -> Result<(), No
     put_values(alloc, &mut line, e)?;
     put(&mut line, b"\n")?;
     // The whole line at once, so that a refusal leaves no part of it.
-    out.extend_from_slice(&line).map_err(|_| NoMemory)
+    out.extend_from_slice(&line)?;
+    Ok(())
 }
 
 fn put(line: &mut Vec<u8>, text: &[u8]) -> Result<(), NoMemory>
     ensures { OnOk result (line.new.items ≡ line.old.items ++ text.now) }
 {
-    line.extend_from_slice(text).map_err(|_| NoMemory)
+    line.extend_from_slice(text)?;
+    Ok(())
 }
 
 // A field behind the comma before it.
@@ -87,20 +89,11 @@ fn put_rate(alloc: Global, line: &mut Vec<u8>, rate: i32) -> Result<(), NoMemory
     write_decimal(alloc, line, u128::from(rate.unsigned_abs()), RATE_PLACES)
 }
 
-fn root_name(root: Root) -> &'static [u8]
-    ensures { result.now ≡ bare_root_text root }
-{
-    match root {
-        Root::Spx => b"SPX",
-        Root::Spxw => b"SPXW",
-    }
-}
-
 fn put_expiry(line: &mut Vec<u8>, expiry: Expiry) -> Result<(), NoMemory>
     requires { IsDayInRange expiry.date }
     ensures { OnOk result (line.new.items ≡ line.old.items ++ behind_commas (expiry_fields expiry)) }
 {
-    put_field(line, root_name(expiry.root))?;
+    put_field(line, expiry.root.name().as_bytes())?;
     put_day(line, expiry.date)
 }
 

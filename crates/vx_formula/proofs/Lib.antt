@@ -7,3 +7,8 @@ pub mod SelectionLemmas
 pub mod RefusalLemmas
 pub mod RangeLemmas
 pub mod ExampleProofs
+pub mod BestOf
+pub mod StrikeCases
+pub mod EndLemmas
+pub mod RowDecisions
+pub mod TermOutcomes

@@ -17,6 +17,9 @@ pub mod Between
 pub mod Refusal
 pub mod Undecided
 pub mod Clear
+-- what two ends of a forward decide, and what answers a term has
+pub mod StrikesByEnds
+pub mod TermOutcomes
 -- what is kept between figures, and what a figure settles
 pub mod Touched
 pub mod Settlement

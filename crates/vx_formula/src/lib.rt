@@ -5,10 +5,12 @@
 //! and each function of `examples` a worked example.
 #![tactic(auto)]
 
+mod answers;
 pub mod examples;
 mod laws;
 pub mod limits;
 
+pub use answers::{ends_decide_or_not, strikes_lie_one_way, term_is_answered};
 pub use laws::{
     clear_index_is_decided, closest_pair_is_one, closest_pair_is_there, exponent_is_small,
     far_forward_is_decided, figure_is_not_negative, figure_is_one, figure_lies_in_ends,

@@ -9,7 +9,8 @@ use Rattle.vx_formula.specs.Refusal.{HasNoneAbove}
 use Rattle.vx_formula.proofs.Lists.{In, in_from_contains, contains_from_in}
 use Rattle.vx_forward.specs.declared.level.K0Answer.{K0Answer}
 use Rattle.vx_forward.specs.declared.level.K0Answer.TheVariants.{At, NoStrikeBelow, NoStrikeAbove, Straddle}
-use Rattle.vx_forward.specs.Level.{IsLowestBetween, HasNoneBetween, HasNoneAtMost, IsLevelRow, IsK0Answer}
+use Rattle.vx_formula.specs.StrikesByEnds.{IsLowestBetween}
+use Rattle.vx_forward.specs.Level.{HasNoneBetween, HasNoneAtMost, IsLevelRow, IsK0Answer}
 use Rattle.vx_forward.proofs.PairOrder.{some_row}
 use Rattle.vx_forward.proofs.Places.{row_listed, strikes_rise, strike_at}
 

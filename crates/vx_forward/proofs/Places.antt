@@ -12,7 +12,8 @@ use Rattle.vx_formula.specs.Level.{StrikesRise, IsListed, strikes}
 use Rattle.vx_formula.specs.Refusal.{HasNoneAbove}
 use Rattle.vx_formula.specs.Undecided.{StrikeStraddles}
 use Rattle.vx_formula.proofs.Lists.{in_from_contains, contains_from_in, in_map, map_in}
-use Rattle.vx_forward.specs.Level.{in_units, IsLowestBetween, HasNoneBetween, HasNoneAtMost, IsGreatestAtMost, IsLevelRow}
+use Rattle.vx_formula.specs.StrikesByEnds.{IsLowestBetween}
+use Rattle.vx_forward.specs.Level.{in_units, HasNoneBetween, HasNoneAtMost, IsGreatestAtMost, IsLevelRow}
 use Rattle.vx_forward.proofs.PairOrder.{some_row}
 
 -- the strike at a place

@@ -6,18 +6,13 @@ use Rattle.vx_formula.specs.declared.limits.TheConstants.{FORWARD_UNITS}
 use Rattle.vx_formula.specs.Level.{IsListed, IsGreatestBelow}
 use Rattle.vx_formula.specs.Refusal.{HasNoneAbove}
 use Rattle.vx_formula.specs.Undecided.{StrikeStraddles}
+use Rattle.vx_formula.specs.StrikesByEnds.{IsLowestBetween}
 use Rattle.vx_forward.specs.declared.level.K0Answer.{K0Answer}
 use Rattle.vx_forward.specs.declared.level.K0Answer.TheVariants.{At, NoStrikeBelow, NoStrikeAbove, Straddle}
 
 -- a strike, in thousandths of a point, in the unit of the printed ends
 abbrev pub in_units : ℕ → ℤ
 in_units strike = pos FORWARD_UNITS *ℤ pos strike
-
--- the strike is the lowest listed one above the low end and at most the high end
-pub record IsLowestBetween (rows : List StrikeRow) (lo hi : ℤ) (strike : ℕ) : Type 0 where
-  pub listed : IsListed rows strike
-  pub straddles : StrikeStraddles lo hi strike
-  pub lowest : (other : ℕ) → IsListed rows other → StrikeStraddles lo hi other → strike ≤ other
 
 -- no listed strike is above the low end and at most the high end
 abbrev pub HasNoneBetween : List StrikeRow → ℤ → ℤ → Type 0

@@ -26,7 +26,9 @@ use Rattle.vx_feed.specs.declared.events.Event.TheVariants as event
 use Rattle.vx_feed.specs.declared.faults.FeedFault.TheVariants as fault
 use Rattle.vx_feed.specs.declared.kinds.Kind.{Kind}
 use Rattle.vx_feed.specs.declared.kinds.Kind.TheVariants as kind
-use Rattle.vx_feed.specs.Form.{is_version, root_of_text, date_of_text, has_time_form, minute_of, time_of_text, rate_of_text, price_of_text, if_positive, count_of_text, series_of_text, header_event, expiry_event, rate_event, series_event, quote_event, trade_event, tick_event, opening_event, end_event, field, field_count, kind_of_text, event_of_kind, event_if_counted, event_of_fields}
+use Rattle.vx_clock.specs.Clock.{has_time_form, minute_of, time_of_text}
+use Rattle.vx_clock.specs.RootText.{root_of_text}
+use Rattle.vx_feed.specs.Form.{is_version, date_of_text, rate_of_text, price_of_text, if_positive, count_of_text, series_of_text, header_event, expiry_event, rate_event, series_event, quote_event, trade_event, tick_event, opening_event, end_event, field, field_count, kind_of_text, event_of_kind, event_if_counted, event_of_fields}
 use Rattle.vx_feed.specs.Ranges.{IsMinute, IsPrice, IsInRange}
 
 -- ---- what an answer says of the tests before it

@@ -1,16 +1,7 @@
 pub mod TermDayProofs
 pub mod FeedDayProofs
-pub mod CauseLemmas
 pub mod OrderExamples
-pub mod LawfulLists
 pub mod EventRanges
-pub mod EndLaws
 pub mod ReadingLemmas
-pub mod BestOf
-pub mod StrikeCases
-pub mod EndLemmas
-pub mod RowDecisions
-pub mod TermOutcomes
 pub mod TickOutcomes
 pub mod SampleTextProofs
-pub mod NextRows

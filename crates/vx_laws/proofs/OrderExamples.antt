@@ -4,7 +4,7 @@ use lib.Signed.{le_z_yes}
 use Rattle.vx_clock.specs.Day.{IsDayInRange}
 use Rattle.vx_feed.specs.Order.{AreLawful}
 use Rattle.vx_laws.specs.FeedDays.{september_17}
-use Rattle.vx_laws.specs.NextEvents.{ended, opened, HeaderAfterEnd, EarlyQuoteAfterEnd, OtherCountAfterEnd, EarlySecondOpening}
+use Rattle.vx_laws.specs.OrderExamples.{ended, opened, HeaderAfterEnd, EarlyQuoteAfterEnd, OtherCountAfterEnd, EarlySecondOpening}
 
 day_17 : IsDayInRange september_17
 day_17 = (le_z_yes tt, le_z_yes tt)

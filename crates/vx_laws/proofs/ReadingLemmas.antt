@@ -10,10 +10,10 @@ use Rattle.vx_feed.specs.declared.limits.TheConstants.{LINE_LEN_MAX}
 use Rattle.vx_feed.specs.Form.{event_of_fields}
 use Rattle.vx_feed.specs.Feed.{event_unless, event_in_order, next_event, event_of_line, BadCause, too_long, no_eol, missing_end, BadLine, Reading, stopped_at, with_cause, event_or_cause, reading_at_end, reading_after, is_last, reading_from, reading_of}
 use Rattle.vx_feed.specs.Order.{is_end, order_fault, IsLawfulNext, AreLawful}
-use Rattle.vx_laws.specs.NextEvents.{PrefixIsLawful, BadLineFollowsPrefix, BadLineIsOne, LawfulFeedEnds}
+use Rattle.vx_laws.specs.LawfulPrefixes.{PrefixIsLawful, BadLineFollowsPrefix, LawfulFeedEnds}
 use Rattle.vx_laws.proofs.EventRanges.{past_fault, past_test, event_in_range}
-use Rattle.vx_laws.proofs.EndLaws.{end_is_last}
-use Rattle.vx_laws.proofs.LawfulLists.{lawful_with_one_more}
+use Rattle.vx_feed.proofs.EndLaws.{end_is_last}
+use Rattle.vx_feed.proofs.LawfulLists.{lawful_with_one_more}
 
 -- ---- the event of a line may come next
 
@@ -96,9 +96,6 @@ prefix_is_lawful text = (told text).lawful
 
 pub bad_line_follows_prefix : BadLineFollowsPrefix
 bad_line_follows_prefix text bad h = (told text).follows bad h
-
-pub bad_line_is_one : BadLineIsOne
-bad_line_is_one text a b h k = let both : Some a ≡ Some b = sym h ∙ k in cc
 
 pub lawful_feed_ends : LawfulFeedEnds
 lawful_feed_ends text h = ((told text).lawful, end_is_last (reading_of text).events (told text).lawful ((told text).ends h))

@@ -5,9 +5,9 @@ use Rattle.vx_formula.specs.Term.{TermFacts}
 use Rattle.vx_formula.specs.Refusal.{TermReason, TermRefuses, term_place, FirstTermRefusal, TickFacts, SomeTermRefuses, TickReason, no_near_term, no_next_term, of_near, of_next, negative_variance, TickRefuses, tick_place, near_undecided_place, next_undecided_place}
 use Rattle.vx_claims.specs.declared.limits.TheConstants.{SCALE}
 use Rattle.vx_claims.specs.Answers.{LeavesForward}
-use Rattle.vx_laws.specs.TermOutcomes.{IsUndecided, IsSound}
+use Rattle.vx_formula.specs.TermOutcomes.{IsUndecided, IsSound}
 use Rattle.vx_laws.specs.TickOutcomes.{AreEndsOf, IsTickRefused, AreBothSound, TickIsAnswered, RefusedTickIsNotSound, UndecidedNearComesFirst, UndecidedNextComesFirst}
-use Rattle.vx_laws.proofs.TermOutcomes.{place_in_range, place_is_not_3, term_is_answered}
+use Rattle.vx_formula.proofs.TermOutcomes.{place_in_range, place_is_not_3, term_is_answered}
 
 same_some : {A : Type 0} (o : Option A) (x y : A) → o ≡ Some x → o ≡ Some y → x ≡ y
 same_some o x y h l = let both : Some x ≡ Some y = sym h ∙ l in cc

@@ -1,8 +1,6 @@
 pub mod TermDays
 pub mod FeedDays
-pub mod NextEvents
-pub mod StrikesByEnds
-pub mod TermOutcomes
+pub mod OrderExamples
+pub mod LawfulPrefixes
 pub mod TickOutcomes
 pub mod SampleText
-pub mod NextRows

@@ -5,7 +5,7 @@ use Rattle.vx_formula.specs.Level.{IsLevel}
 use Rattle.vx_formula.specs.Refusal.{TickFacts, IsTickBasis, TickReason, TickRefuses, tick_place, FirstRefusal, near_undecided_place, next_undecided_place, cents_undecided_place}
 use Rattle.vx_claims.specs.declared.limits.TheConstants.{SCALE}
 use Rattle.vx_claims.specs.Answers.{LeavesForward}
-use Rattle.vx_laws.specs.TermOutcomes.{AreFactsInRange, AreForwardEnds}
+use Rattle.vx_formula.specs.TermOutcomes.{AreFactsInRange, AreForwardEnds}
 
 -- what is known of the term, where it is declared, is in range, and these are narrow ends around its forward
 pub record AreEndsOf (chosen : Option TermFacts) (lo hi : ℤ) : Type 0 where

@@ -7,9 +7,6 @@ mod answers;
 mod days;
 mod feeds;
 
-pub use answers::{ends_decide_or_not, strikes_lie_one_way, term_is_answered, tick_is_answered};
+pub use answers::tick_is_answered;
 pub use days::{crossed_quote, sample_feed, sample_text, terms_of_none, two_terms};
-pub use feeds::{
-    faults_by_cause, first_cause_is_answered, lawful_lists, lawful_prefixes, next_rows,
-    order_decides,
-};
+pub use feeds::{lawful_prefixes, order_decides};

@@ -151,7 +151,8 @@ pub fn write_decimal(
     ensures read_back { (max : ℕ) → value ≤ max → decimal_of (decimal_text value places) places max ≡ Ok value }
 {
     let text = decimal_backwards(value, places);
-    out.extend_from_slice(text.text()).map_err(|_| NoMemory)
+    out.extend_from_slice(text.text())?;
+    Ok(())
 }
 
 /// Appends the text of a whole number: its digits without leading zeros, behind a minus sign where
@@ -166,5 +167,6 @@ pub fn write_wide(alloc: Global, out: &mut Vec<u8>, value: i128) -> Result<(), N
     ensures read_back { (bits : ℕ) → nat_abs value < 2 ^ bits → wide_of (wide_text value) bits ≡ Ok value }
 {
     let text = wide_backwards(value);
-    out.extend_from_slice(text.text()).map_err(|_| NoMemory)
+    out.extend_from_slice(text.text())?;
+    Ok(())
 }

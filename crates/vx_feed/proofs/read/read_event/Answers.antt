@@ -7,8 +7,8 @@ use Rattle.vx_feed.proofs.read.read_event.Goals as goal
 pub returns-clause-value : goal.returns-clause-value
 returns-clause-value c = λ events stands.
     let line = c.args.line.now in
-    let split = on_ok c.fill.result _ (sym c.in_ok-map_err-2.ensures.variant) c.fill.ensures.ok in
-    let one = on_ok c.push.result _ (sym c.in_ok-map_err.ensures.variant) c.push.ensures.ok in
+    let split = c.in_ok-fill.ensures.ok in
+    let one = c.in_ok-push.ensures.ok in
     let fields = fields_of_one c.fill.new.self c.push.new.self c.new-block.result line c.line.result c.line.ensures split one c.new-block.ensures in
     let plain = sym c.is_plain_line.ensures ∙ c.if-not-is_plain_line.false in
     inr (c.event_of_fields.ensures.value events stands ∙ ap (next_event events) fields ∙ sym (event_of_plain events line plain))

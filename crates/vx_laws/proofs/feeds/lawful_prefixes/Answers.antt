@@ -1,10 +1,9 @@
-use Rattle.vx_laws.proofs.ReadingLemmas.{prefix_is_lawful, bad_line_follows_prefix, bad_line_is_one, lawful_feed_ends}
+use Rattle.vx_laws.proofs.ReadingLemmas.{prefix_is_lawful, bad_line_follows_prefix, lawful_feed_ends}
 use Rattle.vx_laws.proofs.feeds.lawful_prefixes.Goals as goal
 
 pub returns : goal.returns
 returns c = record {
   lawful = prefix_is_lawful;
   follows = bad_line_follows_prefix;
-  one = bad_line_is_one;
   ends = lawful_feed_ends;
 }

@@ -4,3 +4,6 @@ use Rattle.vx_num.proofs.writing.write_wide.Goals as goal
 
 pub returns-clause-read_back : goal.returns-clause-read_back
 returns-clause-read_back c = read_back_wide c.args.value
+
+pub returns-in_err-extend_from_slice-clause-read_back : goal.returns-in_err-extend_from_slice-clause-read_back
+returns-in_err-extend_from_slice-clause-read_back c = read_back_wide c.args.value

@@ -7,4 +7,4 @@ use Rattle.vx_feed.proofs.order.Order.declare.Goals as goal
 pub returns-clause-taken : goal.returns-clause-taken
 returns-clause-taken c =
     takes_expiry c.args.self.now _ c.args.expiry refl refl refl refl refl refl
-    (c.push.ensures.items ∙ cond-true (is_ok c.push.result) _ _ (sym c.in_ok-map_err.ensures.variant))
+    c.in_ok-push.ensures.items

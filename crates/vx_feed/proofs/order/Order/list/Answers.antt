@@ -14,7 +14,7 @@ returns-then-has_strike-clause-taken c =
     let order = c.args.self.now in
     let s = c.args.symbol.now in
     let had : contains is_same_series order.series (other_side s) ≡ true = search rules in
-    let updates = on_ok c.insert.result _ (sym c.in_ok-map_err.ensures.variant) c.insert.ensures.updates in
+    let updates = c.in_ok-insert.ensures.updates in
     takes_series order _ s refl refl refl refl refl refl (λ x. strikes_of_listed order s x had)
     (inserted_by_parts _ series_by_parts s order.series.keys c.insert.new.self.keys updates.0)
 
@@ -23,7 +23,7 @@ returns-clause-taken c =
     let order = c.args.self.now in
     let s = c.args.symbol.now in
     let new : contains is_same_series order.series (other_side s) ≡ false = search rules in
-    let updates = on_ok c.insert.result _ (sym c.in_ok-map_err.ensures.variant) c.insert.ensures.updates in
+    let updates = c.in_ok-insert.ensures.updates in
     let before : c.deref_mut.result.now ≡ order.expiries.items = c.deref_mut.ensures.value in
     let more : c.add_strike.new.expiries ≡ with_one_more (expiry_of s) order.expiries.items =
     c.add_strike.ensures ∙ ap (λ x. with_one_more x c.deref_mut.result.now) c.expiry_of.ensures ∙ ap (with_one_more (expiry_of s)) before in

@@ -7,9 +7,8 @@ use Rattle.vx_formula.specs.declared.limits.TheConstants.{FORWARD_UNITS}
 use Rattle.vx_formula.specs.Level.{strikes}
 use Rattle.vx_formula.specs.Undecided.{StrikeStraddles}
 use Rattle.vx_formula.proofs.Lists.{In, in_from_contains, contains_from_in}
-use Rattle.vx_forward.specs.Level.{IsLowestBetween}
-use Rattle.vx_laws.specs.StrikesByEnds.{AreAllAbove, IsLevelByEnds, StrikesLieOneWay, LowestBetweenIsOne, LevelByEndsIsOne}
-use Rattle.vx_laws.proofs.BestOf.{Best, best_or_none}
+use Rattle.vx_formula.specs.StrikesByEnds.{IsLowestBetween, AreAllAbove, IsLevelByEnds, StrikesLieOneWay, LowestBetweenIsOne, LevelByEndsIsOne}
+use Rattle.vx_formula.proofs.BestOf.{Best, best_or_none}
 
 abbrev IsAtMost : ℤ → ℕ → Type 0
 IsAtMost lo k = (pos FORWARD_UNITS *ℤ pos k) ≤ℤ lo

@@ -4,7 +4,7 @@ use Rattle.std.proofs.lemmas.Bool.{cases_Bool, cond-true, cond-false, both_ways,
 use Rattle.vx_feed.specs.declared.faults.FeedFault.{FeedFault}
 use Rattle.vx_feed.specs.declared.faults.FeedFault.TheVariants as fault
 use Rattle.vx_feed.specs.Order.{is_misplaced, is_after_end, is_time_back, is_duplicate_expiry, is_duplicate_series, is_undeclared, is_too_many, is_other_count, is_out_of_days, is_second_opening, first_fault, order_causes}
-use Rattle.vx_laws.specs.NextEvents.{NoneHolds, HoldsFirst, tests_of, IsFirstCause, FaultIsOfFirstCause, InOrderHasNoCause, FaultsByCause}
+use Rattle.vx_feed.specs.NextEvents.{NoneHolds, HoldsFirst, tests_of, IsFirstCause, FaultIsOfFirstCause, InOrderHasNoCause, FaultsByCause}
 
 abbrev Cause : Type 0
 Cause = Bool × FeedFault

@@ -8,7 +8,7 @@ use Rattle.vx_formula.specs.Selection.{selected_rows}
 use Rattle.vx_formula.specs.Strip.{strip, upper_total}
 use Rattle.vx_formula.specs.Refusal.{HasNoneAbove, LacksMoney, HasNoPut, HasNoCall, IsTooLarge}
 use Rattle.vx_formula.proofs.Lists.{in_from_contains, contains_from_in, all_in, all_from_in}
-use Rattle.vx_laws.proofs.BestOf.{some_or_none}
+use Rattle.vx_formula.proofs.BestOf.{some_or_none}
 
 less_or_not : (a b : ℕ) → (a < b) ⊎ ¬ (a < b)
 less_or_not a b = elim (cases_lt a b) [ inl less ↦ inl less | inr fine ↦ inr (λ h. omega arith) ]

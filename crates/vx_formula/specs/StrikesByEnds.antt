@@ -1,13 +1,12 @@
 -- Where the listed strikes lie by two ends around a forward, and what that says of the level.
-use Rattle.std.specs.Prelude.{◌≡◌, ℕ, ◌<◌, ◌⊎◌, ℤ, pos, ◌+ℤ◌, ◌*ℤ◌, ◌≤ℤ◌, ◌<ℤ◌, List}
+use Rattle.std.specs.Prelude.{◌≡◌, ℕ, ◌<◌, ◌≤◌, ◌⊎◌, ℤ, pos, ◌+ℤ◌, ◌*ℤ◌, ◌≤ℤ◌, ◌<ℤ◌, List}
 use Rattle.vx_symbol.specs.declared.rows.StrikeRow.{StrikeRow}
 use Rattle.vx_formula.specs.declared.limits.TheConstants.{FORWARD_UNITS, FORWARD_WIDTH_MAX}
 use Rattle.vx_formula.specs.Term.{Term}
 use Rattle.vx_formula.specs.Level.{IsListed, IsLevel}
 use Rattle.vx_formula.specs.Between.{ForwardBetween}
 use Rattle.vx_formula.specs.Refusal.{IsBelowAll}
-use Rattle.vx_formula.specs.Undecided.{UndecidedForward}
-use Rattle.vx_forward.specs.Level.{IsLowestBetween}
+use Rattle.vx_formula.specs.Undecided.{StrikeStraddles, UndecidedForward}
 
 -- just one of three holds
 pub record JustOne (A B C : Type 0) : Type 0 where
@@ -17,6 +16,12 @@ pub record JustOne (A B C : Type 0) : Type 0 where
   pub not_second_and_third : B → C → ⊥
 
 -- ---- where listed strikes lie by two ends, in units of 10^-12 point
+
+-- the strike is the lowest listed one above the low end and at most the high end
+pub record IsLowestBetween (rows : List StrikeRow) (lo hi : ℤ) (strike : ℕ) : Type 0 where
+  pub listed : IsListed rows strike
+  pub straddles : StrikeStraddles lo hi strike
+  pub lowest : (other : ℕ) → IsListed rows other → StrikeStraddles lo hi other → strike ≤ other
 
 -- every listed strike is above the high end
 abbrev pub AreAllAbove : List StrikeRow → ℤ → Type 0

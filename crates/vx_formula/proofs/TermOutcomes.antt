@@ -13,9 +13,9 @@ use Rattle.vx_formula.proofs.Lists.{in_from_contains}
 use Rattle.vx_formula.proofs.PairLemmas.{closest_pair_is_one, closest_pair_is_there}
 use Rattle.vx_formula.proofs.LevelLemmas.{level_is_one, level_is_not_below_all}
 use Rattle.vx_formula.proofs.RangeLemmas.{exponent_is_small}
-use Rattle.vx_laws.specs.TermOutcomes.{AreFactsInRange, TermOfFactsIsOne, AreForwardEnds, IsRefused, IsUndecided, IsSound, TermIsAnswered, RefusedIsNotSound, UndecidedComesFirst}
-use Rattle.vx_laws.proofs.EndLemmas.{ends_decide_or_not}
-use Rattle.vx_laws.proofs.RowDecisions.{none_above_or_not, money_or_not, put_or_not, call_or_not, large_or_not}
+use Rattle.vx_formula.specs.TermOutcomes.{AreFactsInRange, TermOfFactsIsOne, AreForwardEnds, IsRefused, IsUndecided, IsSound, TermIsAnswered, RefusedIsNotSound, UndecidedComesFirst}
+use Rattle.vx_formula.proofs.EndLemmas.{ends_decide_or_not}
+use Rattle.vx_formula.proofs.RowDecisions.{none_above_or_not, money_or_not, put_or_not, call_or_not, large_or_not}
 
 -- ---- the places of reasons
 

@@ -17,60 +17,15 @@ use Rattle.vx_feed.specs.Standing.{BidAsk, lists_series, quote_of, standing_quot
 use Rattle.vx_feed.specs.Listed.{expiry_of, insert_strike, is_listed, is_strike_listed, listed_rows, listed_strike, listed_strikes, no_price, opposite, other_side, quoted_price, row_of, series_at, standing_price, strikes_of, with_strike}
 use Rattle.vx_feed.specs.Next.{quote_after}
 use Rattle.vx_feed.proofs.NextEvent.{insert_strike-above, insert_strike-at, insert_strike-below, next_listed, next_quote, next_strikes, or-false, three_ways, unlisted_has_none}
+use Rattle.vx_feed.proofs.RisingStrikes.{RisesFrom, dropped, filter_rises, kept, rises_weaker, strikes_rise}
 use Rattle.vx_feed.proofs.SameLemmas.{expiry_from_same}
-use Rattle.vx_laws.specs.NextRows.{NextRows, NextRowsListed, NextStrikesListed, completed_strike, completes_strike, insert_row, is_listing, price_after, row_after, row_when_listed, row_without}
-
--- ---- strikes in rising order, each at least this
-
-abbrev RisesFrom : ℕ → List ℕ → Type 0
-RisesFrom low [] = Unit {0}
-RisesFrom low (k ∷ ks) = (low ≤ k) × RisesFrom (k + 1) ks
-
-rises_weaker : (high low : ℕ) (ks : List ℕ) → low ≤ high → RisesFrom high ks → RisesFrom low ks
-rises_weaker high low [] h r = tt
-rises_weaker high low (k ∷ ks) h r = let at : high ≤ k = r.0 in (omega arith, r.1)
-
-insert_rises : (k low : ℕ) (js : List ℕ) → low ≤ k → RisesFrom low js → RisesFrom low (insert_strike k js)
-insert_rises k low [] h r = (h, tt)
-insert_rises k low (j ∷ js) h r =
-    let From : List ℕ → Type 0 = RisesFrom low in
-    elim (three_ways k j) [
-      | inl below ↦ subst From (sym (insert_strike-below k j js below)) (h, (omega arith, r.1))
-      | inr other ↦ elim other [
-        | inl same ↦ subst From (sym (insert_strike-at k j js same)) r
-        | inr above ↦ subst From (sym (insert_strike-above k j js above)) (r.0, insert_rises k (j + 1) js (omega arith) r.1)
-      ]
-    ]
-
-with_rises : (o : Option ℕ) (js : List ℕ) → RisesFrom 0 js → RisesFrom 0 (with_strike o js)
-with_rises None js r = r
-with_rises (Some k) js r = insert_rises k 0 js (omega arith) r
-
-strikes_rise : (x : Expiry) (events : List Event) → RisesFrom 0 (strikes_of x events)
-strikes_rise x [] = tt
-strikes_rise x (e ∷ events) = with_rises (listed_strike x e) (strikes_of x events) (strikes_rise x events)
+use Rattle.vx_feed.specs.NextRows.{NextRows, NextRowsListed, NextStrikesListed, completed_strike, completes_strike, insert_row, is_listing, price_after, row_after, row_when_listed, row_without}
 
 insert_front : (k : ℕ) (ks : List ℕ) → RisesFrom (k + 1) ks → insert_strike k ks ≡ k ∷ ks
 insert_front k [] r = refl
 insert_front k (j ∷ js) r = let above : k + 1 ≤ j = r.0 in insert_strike-below k j js (omega arith)
 
 -- ---- the strikes that pass a test
-
-kept : (t : ℕ → Bool) (j : ℕ) (js : List ℕ) → t j ≡ true → filter t (j ∷ js) ≡ j ∷ filter t js
-kept t j js h = rw h refl
-
-dropped : (t : ℕ → Bool) (j : ℕ) (js : List ℕ) → t j ≡ false → filter t (j ∷ js) ≡ filter t js
-dropped t j js h = rw h refl
-
-filter_rises : (t : ℕ → Bool) (low : ℕ) (ks : List ℕ) → RisesFrom low ks → RisesFrom low (filter t ks)
-filter_rises t low [] r = tt
-filter_rises t low (j ∷ js) r =
-    let From : List ℕ → Type 0 = RisesFrom low in
-    let at : low ≤ j = r.0 in
-    elim (cases_Bool (t j)) [
-      | inl passes ↦ subst From (sym (kept t j js passes)) (at, filter_rises t (j + 1) js r.1)
-      | inr fails ↦ subst From (sym (dropped t j js fails)) (rises_weaker (j + 1) low (filter t js) (omega arith) (filter_rises t (j + 1) js r.1))
-    ]
 
 filter_step : (t u : ℕ → Bool) (j : ℕ) (js is : List ℕ) → u j ≡ t j → filter u js ≡ filter t is → filter u (j ∷ js) ≡ filter t (j ∷ is)
 filter_step t u j js is same more = ap (λ b. cond b (j ∷ filter u js) (filter u js)) same ∙ ap (λ l. cond (t j) (j ∷ l) l) more

@@ -3,7 +3,7 @@ use Rattle.std.proofs.Common.{sym, subst, List, [], ◌∷◌, ◌++◌, append_
 use Rattle.std.proofs.lemmas.List.{append-nil}
 use Rattle.vx_feed.specs.declared.events.Event.{Event}
 use Rattle.vx_feed.specs.Order.{IsLawfulNext, AreLawfulAfter, AreLawful}
-use Rattle.vx_laws.specs.NextEvents.{LeadingPartsAreLawful, OneMoreIsLawful}
+use Rattle.vx_feed.specs.NextEvents.{LeadingPartsAreLawful, OneMoreIsLawful}
 
 leading_after : (before a b : List Event) → AreLawfulAfter before (a ++ b) → AreLawfulAfter before a
 leading_after before [] b h = tt

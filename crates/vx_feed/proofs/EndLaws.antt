@@ -7,17 +7,17 @@ use Rattle.vx_feed.specs.declared.events.Event.{Event}
 use Rattle.vx_feed.specs.declared.events.Event.TheVariants as event
 use Rattle.vx_feed.specs.Order.{is_end, IsLawfulNext, AreLawfulAfter}
 use Rattle.vx_feed.proofs.NextEvent.{any-push}
-use Rattle.vx_laws.specs.NextEvents.{EndIsLast}
-use Rattle.vx_laws.proofs.CauseLemmas.{in_order_has_no_cause}
+use Rattle.vx_feed.specs.NextEvents.{EndIsLast}
+use Rattle.vx_feed.proofs.NoCauses.{no_causes}
 
 -- after an END nothing may come
 pub nothing_after_end : (before : List Event) (e : Event) → list_any is_end before ≡ true → ¬ IsLawfulNext before e
-nothing_after_end before e ended next = both_ways (list_any is_end before) ((in_order_has_no_cause before e).0 next.in_order).1.0 ended
+nothing_after_end before e ended next = both_ways (list_any is_end before) (no_causes before e next.in_order).before_end ended
 
 -- an END that may come counts the events between the first and it
 count_is : (before : List Event) (n : ℕ) → IsLawfulNext before (event.End n) → n ≡ length before - 1
 count_is before n next =
-    eqb-true n (length before - 1) (not-false (eqb n (length before - 1)) ((in_order_has_no_cause before (event.End n)).0 next.in_order).1.1.1.1.1.1.1.0)
+    eqb-true n (length before - 1) (not-false (eqb n (length before - 1)) (no_causes before (event.End n) next.in_order).counted)
 
 -- the events after earlier ones, of which the last is an END
 record EndsAfter (before events : List Event) : Type 0 where

@@ -11,8 +11,8 @@ use Rattle.vx_formula.specs.Between.{forward_units}
 use Rattle.vx_bracket.proofs.Members.{bracket_has_member}
 use Rattle.vx_formula.proofs.Ends.{whole_at_most}
 use Rattle.vx_formula.proofs.LevelLemmas.{exponent_proper}
-use Rattle.vx_laws.specs.StrikesByEnds.{EndsAreInOrder, AllAboveIsBelowAll, LevelByEndsIsLevel, EndsDecideOrNot}
-use Rattle.vx_laws.proofs.StrikeCases.{lie_one_way}
+use Rattle.vx_formula.specs.StrikesByEnds.{EndsAreInOrder, AllAboveIsBelowAll, LevelByEndsIsLevel, EndsDecideOrNot}
+use Rattle.vx_formula.proofs.StrikeCases.{lie_one_way}
 
 -- a fraction t/b by its bounds in units
 below_at : (t hi : ℤ) (b s : ℕ) → 1 ≤ b → (pos FORWARD_UNITS *ℤ t) ≤ℤ (hi *ℤ pos b) → hi <ℤ (pos FORWARD_UNITS *ℤ pos s) → t <ℤ pos (s * b)

@@ -1,14 +1,12 @@
 -- What may come next in a feed, fault by fault. An event's causes stand in a list with their faults, and the fault of the first
 -- cause that holds is answered.
-use Rattle.std.specs.Prelude.{◌≡◌, ℕ, Bool, true, false, ◌+◌, ◌-◌, ◌↔◌, List, [], ◌∷◌, ◌++◌, length, map, Some, None}
+use Rattle.std.specs.Prelude.{◌≡◌, ℕ, Bool, true, false, ◌-◌, ◌↔◌, List, [], ◌∷◌, ◌++◌, length, map, Some, None}
 use Rattle.std.specs.List.{list_any}
 use Rattle.vx_feed.specs.declared.events.Event.{Event}
 use Rattle.vx_feed.specs.declared.events.Event.TheVariants as event
 use Rattle.vx_feed.specs.declared.faults.FeedFault.{FeedFault}
 use Rattle.vx_feed.specs.declared.faults.FeedFault.TheVariants as fault
-use Rattle.vx_feed.specs.Feed.{BadLine, lawful_prefix, bad_line, IsLawfulFeed}
 use Rattle.vx_feed.specs.Order.{is_end, is_misplaced, is_after_end, is_time_back, is_duplicate_expiry, is_duplicate_series, is_undeclared, is_too_many, is_other_count, is_out_of_days, is_second_opening, order_causes, order_fault, IsLawfulNext, AreLawful}
-use Rattle.vx_laws.specs.FeedDays.{september_17, call_at}
 
 -- none of the tests holds
 abbrev pub NoneHolds : List Bool → Type 0
@@ -61,38 +59,6 @@ pub record FaultsByCause : Type 0 where
   pub second_opening : (before : List Event) (e : Event) → (order_fault before e ≡ Some fault.SecondOpening)
       ↔ HoldsFirst (is_misplaced before e ∷ is_after_end before e ∷ is_time_back before e ∷ is_duplicate_expiry before e ∷ is_duplicate_series before e ∷ is_undeclared before e ∷ is_too_many before e ∷ is_other_count before e ∷ is_out_of_days before e ∷ []) (is_second_opening before e)
 
--- ---- where two causes hold, the order alone decides
-
--- both causes hold of an event after a lawful list, and this fault is answered
-pub record BothHold (before : List Event) (e : Event) (one other : List Event → Event → Bool) (f : FeedFault) : Type 0 where
-  pub lawful : AreLawful before
-  pub one_holds : one before e ≡ true
-  pub other_holds : other before e ≡ true
-  pub answered : order_fault before e ≡ Some f
-
--- a day with a tick at 8:30 that has ended, and one whose opening was taken then
-abbrev pub ended : List Event
-ended = event.Header september_17 ∷ event.Tick 510 ∷ event.End 1 ∷ []
-
-abbrev pub opened : List Event
-opened = event.Header september_17 ∷ event.Opening 510 ∷ []
-
--- a second header after the end
-abbrev pub HeaderAfterEnd : Type 0
-HeaderAfterEnd = BothHold ended (event.Header september_17) is_misplaced is_after_end fault.NotFirst
-
--- a quote at 8:29 after the end
-abbrev pub EarlyQuoteAfterEnd : Type 0
-EarlyQuoteAfterEnd = BothHold ended (event.Quote 509 (call_at 2000000) 5000 5000) is_after_end is_time_back fault.AfterEnd
-
--- a second end with another count
-abbrev pub OtherCountAfterEnd : Type 0
-OtherCountAfterEnd = BothHold ended (event.End 1) is_after_end is_other_count fault.AfterEnd
-
--- a second opening, at 8:29
-abbrev pub EarlySecondOpening : Type 0
-EarlySecondOpening = BothHold opened (event.Opening 509) is_time_back is_second_opening fault.TimeBack
-
 -- ---- lawful lists
 
 -- a lawful list is lawful in its leading parts
@@ -103,19 +69,6 @@ LeadingPartsAreLawful = (a b : List Event) → AreLawful (a ++ b) → AreLawful 
 abbrev pub OneMoreIsLawful : Type 0
 OneMoreIsLawful = (events : List Event) (e : Event) → AreLawful (events ++ e ∷ []) ↔ (AreLawful events × IsLawfulNext events e)
 
--- ---- texts
-
--- the lawful prefix of every text is lawful
-abbrev pub PrefixIsLawful : Type 0
-PrefixIsLawful = (text : List ℕ) → AreLawful (lawful_prefix text)
-
--- a text's bad line is the one after its lawful prefix, and no other line is
-abbrev pub BadLineFollowsPrefix : Type 0
-BadLineFollowsPrefix = (text : List ℕ) (bad : BadLine) → bad_line text ≡ Some bad → bad.line ≡ length (lawful_prefix text) + 1
-
-abbrev pub BadLineIsOne : Type 0
-BadLineIsOne = (text : List ℕ) (a b : BadLine) → bad_line text ≡ Some a → bad_line text ≡ Some b → a ≡ b
-
 -- the last of the events, and no other, is an END, which counts the events between the first and it
 pub record EndWithCount (events : List Event) : Type 0 where
   pub front : List Event
@@ -125,7 +78,3 @@ pub record EndWithCount (events : List Event) : Type 0 where
 -- a lawful list with an END among its events ends with it
 abbrev pub EndIsLast : Type 0
 EndIsLast = (events : List Event) → AreLawful events → list_any is_end events ≡ true → EndWithCount events
-
--- so do the events of a lawful feed, which are lawful
-abbrev pub LawfulFeedEnds : Type 0
-LawfulFeedEnds = (text : List ℕ) → IsLawfulFeed text → AreLawful (lawful_prefix text) × EndWithCount (lawful_prefix text)

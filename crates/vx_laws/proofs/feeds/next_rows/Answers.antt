@@ -1,5 +1,0 @@
-use Rattle.vx_laws.proofs.NextRows.{next_strikes_listed, next_rows, next_rows_listed}
-use Rattle.vx_laws.proofs.feeds.next_rows.Goals as goal
-
-pub returns : goal.returns
-returns c = record { strikes = next_strikes_listed; rows = next_rows; listed = next_rows_listed }
