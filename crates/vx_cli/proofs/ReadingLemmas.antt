@@ -7,7 +7,9 @@ use Rattle.std.proofs.lemmas.Bool.Decides.{nat_tests}
 use Rattle.std.proofs.lemmas.List.{append_assoc, map-append, take-append-drop, length-append, length-take-le, drop_all}
 use Rattle.std.proofs.lemmas.List.Elements.{All-head, All-tail}
 use Rattle.std.proofs.lemmas.List.Splits.{slice_split_none, slice_split_at, slice_split-cons_no, length-slice_split}
-use Rattle.vx_fields.specs.Lines.{fields_of_line, is_plain, line_feed}
+use Rattle.vx_lines.specs.TextLines.{line_feed, lines_of}
+use Rattle.vx_lines.proofs.LineLemmas.{lines_of_line, lines_of_nothing, lines_of_long, lines_of_cut_off}
+use Rattle.vx_fields.specs.Lines.{fields_of_line, is_plain}
 use Rattle.vx_desk.specs.declared.lines.ReadFault.{ReadFault}
 use Rattle.vx_desk.specs.declared.lines.ReadFault.TheVariants.{LineTooLong, NoEol}
 use Rattle.vx_desk.specs.Lines.{ReaderState, Answers, HasNoLf, IsLine, IsTooLong, IsCutOff}
@@ -15,7 +17,7 @@ use Rattle.vx_feed.specs.declared.events.Event.{Event}
 use Rattle.vx_feed.specs.declared.faults.FeedFault.{FeedFault}
 use Rattle.vx_feed.specs.declared.faults.FeedFault.TheVariants as fault
 use Rattle.vx_feed.specs.declared.limits.TheConstants.{LINE_LEN_MAX}
-use Rattle.vx_feed.specs.Feed.{BadCause, of_fault, too_long, no_eol, Reading, stopped_at, with_cause, unsplit_fault, event_of_line, next_event, reading_after, is_last, reading_from}
+use Rattle.vx_feed.specs.Feed.{BadCause, of_fault, too_long, no_eol, Reading, stopped_at, with_cause, unsplit_fault, event_of_line, next_event, reading_after, reading_on}
 use Rattle.vx_cli.specs.declared.ahead.LinesAhead.{LinesAhead}
 use Rattle.vx_cli.specs.declared.ahead.Rest.{Rest}
 use Rattle.vx_cli.specs.declared.ahead.Rest.TheVariants.{More, End, Bad}
@@ -24,69 +26,11 @@ use Rattle.vx_cli.specs.Reading.{Adds, KeepsReading, reading_of_fields, reading_
 
 -- ---- lines of a text
 
-abbrev lf_test : ℕ → Bool
-lf_test byte = byte == line_feed
-
-no_lf_test : (byte : ℕ) → byte ≢ 10 → (byte == line_feed) ≡ false
-no_lf_test byte other = grind (arith, nat_tests)
-
-no_lf_tests : (line : List ℕ) → HasNoLf line → All (λ byte. (byte == line_feed) ≡ false) line
-no_lf_tests line no_lf = λ k d within. no_lf_test _ (no_lf k d within)
-
-not_last : (lines : List (List ℕ)) → 0 < length lines → is_last lines ≡ false
-not_last [] some = absurd (omega arith)
-not_last (line ∷ lines) some = refl
-
-some_piece : (text : List ℕ) → 0 < length (slice_split lf_test text)
-some_piece text = let n = length-slice_split lf_test text in omega (arith, n)
-
 -- the first line of a text says its event, and then comes what the rest says
-line_first : (events : List Event) (line rest : List ℕ) → HasNoLf line → length line ≤ 256
-    → reading_from events (slice_split lf_test (line ++ line_feed ∷ rest))
-    ≡ reading_after (λ e. reading_from e (slice_split lf_test rest)) events (with_cause (event_of_line events line))
-line_first events line rest no_lf fits =
-    let split : slice_split lf_test (line ++ line_feed ∷ rest) ≡ line ∷ slice_split lf_test rest = slice_split_at lf_test line line_feed rest (no_lf_tests line no_lf) refl in
-    let more : is_last (slice_split lf_test rest) ≡ false = not_last (slice_split lf_test rest) (some_piece rest) in
-    let short : nat_lt LINE_LEN_MAX (length line) ≡ false = grind (arith, nat_tests) in
-    ap (reading_from events) split ∙ rw (more, short) refl
-
--- bytes without LF before a text belong to its first piece
-onto_piece : (front text first : List ℕ) (more : List (List ℕ)) → All (λ byte. (byte == line_feed) ≡ false) front
-    → slice_split lf_test text ≡ first ∷ more → slice_split lf_test (front ++ text) ≡ (front ++ first) ∷ more
-onto_piece [] text first more none split = split
-onto_piece (byte ∷ front) text first more none split =
-    slice_split-cons_no lf_test byte (front ++ text) (All-head (λ b. (b == line_feed) ≡ false) byte front none)
-    ∙ ap (onto_first byte) (onto_piece front text first more (All-tail (λ b. (b == line_feed) ≡ false) byte front none) split)
-
-too_long_piece : (events : List Event) (piece : List ℕ) (more : List (List ℕ)) → 256 < length piece → reading_from events (piece ∷ more) ≡ stopped_at events too_long
-too_long_piece events piece [] long = let h : nat_lt LINE_LEN_MAX (length piece) ≡ true = grind (arith, nat_tests) in rw h refl
-too_long_piece events piece (next ∷ more) long = let h : nat_lt LINE_LEN_MAX (length piece) ≡ true = grind (arith, nat_tests) in rw h refl
-
-too_long_by : (events : List Event) (front text : List ℕ) (split : List (List ℕ)) → HasNoLf front → 256 < length front → 0 < length split
-    → slice_split lf_test text ≡ split → reading_from events (slice_split lf_test (front ++ text)) ≡ stopped_at events too_long
-too_long_by events front text [] no_lf long some is = absurd (omega arith)
-too_long_by events front text (first ∷ more) no_lf long some is =
-    let n = length-append front first in
-    ap (reading_from events) (onto_piece front text first more (no_lf_tests front no_lf) is)
-    ∙ too_long_piece events (front ++ first) more (omega (arith, n, long))
-
--- a text that begins with too many bytes for a line stops there
-too_long_first : (events : List Event) (text : List ℕ) → IsTooLong 256 text → reading_from events (slice_split lf_test text) ≡ stopped_at events too_long
-too_long_first events text long =
-    let more : 256 < length text = long.more in
-    let size : length (take 257 text) ≡ 257 = length-take-le 257 text (omega (arith, more)) in
-    ap (λ t. reading_from events (slice_split lf_test t)) (sym (take-append-drop 257 text))
-    ∙ too_long_by events (take 257 text) (drop 257 text) (slice_split lf_test (drop 257 text)) long.no_lf (omega (arith, size)) (some_piece (drop 257 text)) refl
-
--- a text that is a line with no LF stops there
-cut_off_first : (events : List Event) (text : List ℕ) → IsCutOff 256 text → reading_from events (slice_split lf_test text) ≡ stopped_at events no_eol
-cut_off_first events text cut =
-    let split : slice_split lf_test text ≡ text ∷ [] = slice_split_none lf_test text (no_lf_tests text cut.no_lf) in
-    let some : 0 < length text = cut.some in
-    let fits : length text ≤ 256 = cut.fits in
-    let short : nat_lt LINE_LEN_MAX (length text) ≡ false = grind (arith, nat_tests) in
-    let filled : (length text == 0) ≡ false = grind (arith, nat_tests) in
-    ap (reading_from events) split ∙ rw (short, filled) refl
+line_first : (events : List Event) (line rest : List ℕ) → IsLine 256 line
+    → reading_on events (lines_of LINE_LEN_MAX (line ++ line_feed ∷ rest))
+    ≡ reading_after (λ e. reading_on e (lines_of LINE_LEN_MAX rest)) events (with_cause (event_of_line events line))
+line_first events line rest is = ap (reading_on events) (lines_of_line 256 line rest is)
 
 -- ---- lines that were split
 
@@ -161,7 +105,7 @@ line_told line old new (Some text) (Some rest) more is_line taken adds = λ even
     let same : text ≡ (line ++ line_feed ∷ []) ++ rest = cc in
     let whole : text ≡ line ++ line_feed ∷ rest = same ∙ append_assoc line (line_feed ∷ []) rest in
     added line text rest (unsplit_fault line) old new events more
-    (λ es. ap (λ t. reading_from es (slice_split lf_test t)) whole ∙ line_first es line rest is_line.no_lf is_line.fits
+    (λ es. ap (λ t. reading_on es (lines_of LINE_LEN_MAX t)) whole ∙ line_first es line rest is_line
     ∙ ap (λ said. reading_after (reading_of_rest More rest) es (with_cause said)) (line_said es line))
     adds
 
@@ -179,15 +123,15 @@ place_told old_rest new_rest lines (Some text) (Some rest) more same said = λ e
 
 pub end_told : (before : Option (List ℕ)) → IsAtEnd before → IfSome before (λ text. (events : List Event) → reading_of_rest End text events ≡ reading_of_rest More text events)
 end_told None at_end = tt
-end_told (Some text) at_end = λ events. ap (λ t. reading_from events (slice_split lf_test t)) (sym at_end)
+end_told (Some text) at_end = λ events. sym (ap (λ t. reading_on events (lines_of LINE_LEN_MAX t)) at_end ∙ ap (reading_on events) (lines_of_nothing 256))
 
 pub too_long_told : (before : Option (List ℕ)) → IfSome before (IsTooLong 256) → IfSome before (λ text. (events : List Event) → reading_of_rest (Bad cause.TooLong) text events ≡ reading_of_rest More text events)
 too_long_told None long = tt
-too_long_told (Some text) long = λ events. sym (too_long_first events text long)
+too_long_told (Some text) long = λ events. sym (ap (reading_on events) (lines_of_long 256 text long))
 
 pub cut_off_told : (before : Option (List ℕ)) → IfSome before (IsCutOff 256) → IfSome before (λ text. (events : List Event) → reading_of_rest (Bad cause.NoEol) text events ≡ reading_of_rest More text events)
 cut_off_told None cut = tt
-cut_off_told (Some text) cut = λ events. sym (cut_off_first events text cut)
+cut_off_told (Some text) cut = λ events. sym (ap (reading_on events) (lines_of_cut_off 256 text cut))
 
 -- what a reader answers that finds a line too long, or with no LF
 pub too_long_answers : (old new : ReaderState) (before after : Option (List ℕ)) (fault : ReadFault) {number : ℕ} → fault ≡ LineTooLong number

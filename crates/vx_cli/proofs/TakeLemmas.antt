@@ -5,6 +5,7 @@ use Rattle.std.proofs.lemmas.List.{drop_all, drop_more}
 use Rattle.std.proofs.lemmas.Option.{get_or_from_slice_get, slice_get_within}
 use Rattle.vx_feed.specs.declared.events.Event.{Event}
 use Rattle.vx_feed.specs.declared.faults.FeedFault.{FeedFault}
+use Rattle.vx_lines.specs.TextLines.{at_end}
 use Rattle.vx_feed.specs.Feed.{BadCause, of_fault, Reading, stopped_at, with_cause, next_event, reading_at_end, reading_after}
 use Rattle.vx_cli.specs.declared.ahead.LinesAhead.{LinesAhead}
 use Rattle.vx_cli.specs.declared.ahead.Rest.TheVariants.{End, Bad}
@@ -57,7 +58,7 @@ pub takes_rest : (ahead : LinesAhead) (text : List ℕ) (events : List Event) �
 takes_rest ahead text events taken = ap (reading_of_fields (reading_of_rest ahead.rest text) events) (drop_all ahead.taken ahead.table taken)
 
 pub takes_end : (ahead : LinesAhead) (text : List ℕ) (events : List Event) → length ahead.table ≤ ahead.taken → ahead.rest ≡ End
-    → reading_ahead ahead text events ≡ reading_at_end events []
+    → reading_ahead ahead text events ≡ reading_at_end events at_end
 takes_end ahead text events taken end = takes_rest ahead text events taken ∙ ap (λ r. reading_of_rest r text events) end
 
 pub takes_bad : (ahead : LinesAhead) (text : List ℕ) (events : List Event) (cause : FeedCause) → length ahead.table ≤ ahead.taken → ahead.rest ≡ Bad cause

@@ -10,6 +10,7 @@ use Rattle.vx_desk.specs.Lines.{to_come, next_number}
 use Rattle.vx_feed.specs.declared.events.Event.{Event}
 use Rattle.vx_feed.specs.declared.faults.FeedFault.{FeedFault}
 use Rattle.vx_feed.specs.declared.limits.TheConstants.{LINES_MAX}
+use Rattle.vx_lines.specs.TextLines.{at_end}
 use Rattle.vx_feed.specs.Feed.{missing_end, Reading, stopped_at, reading_at_end, reading_of}
 use Rattle.vx_feed.specs.Noted.{StandsFor}
 use Rattle.vx_feed.specs.Order.{IsLawfulNext, first_fault, has_too_many_expiries, has_too_many_strikes, is_end, order_causes}
@@ -89,12 +90,12 @@ missing_by events true is = cc
 missing_by events false is = refl
 
 -- a feed ends after an END line
-pub ended_over : (feed : FeedReader) (events : List Event) → HasTakenUp feed events → feed.has_end ≡ true → reading_at_end events [] ≡ reading_of_all events
+pub ended_over : (feed : FeedReader) (events : List Event) → HasTakenUp feed events → feed.has_end ≡ true → reading_at_end events at_end ≡ reading_of_all events
 ended_over feed events has ended = ended_by events (list_any is_end events) (sym has.ended ∙ ended)
 
 -- or an END line is missing
 pub missing_named : (feed : FeedReader) (events : List Event) (number : ℕ) → HasTakenUp feed events → feed.has_end ≡ false → number ≡ next_number feed.count
-    → (number ≤ feed.count + 1) × ((reading_at_end events []).bad ≡ Some (record { line = number; cause = missing_end }))
+    → (number ≤ feed.count + 1) × ((reading_at_end events at_end).bad ≡ Some (record { line = number; cause = missing_end }))
 missing_named feed events number has ended numbered =
     let few : length events ≤ LINES_MAX = has.few in
     let count : feed.count ≡ length events = has.count in
@@ -197,8 +198,8 @@ clash false t f = cc
 
 -- the feed is over
 pub says_over : (whole : Reading) (feed new : FeedReader) (coming after : Option (List ℕ)) (says : SaysRest whole feed coming) → feed.is_over ≡ false
-    → reading_ahead feed.ahead says.text says.events ≡ reading_at_end says.events [] → HasTakenUp new says.events → after ≡ coming
-    → reading_at_end says.events [] ≡ reading_of_all says.events → new.is_over ≡ true → SaysRest whole new after
+    → reading_ahead feed.ahead says.text says.events ≡ reading_at_end says.events at_end → HasTakenUp new says.events → after ≡ coming
+    → reading_at_end says.events at_end ≡ reading_of_all says.events → new.is_over ≡ true → SaysRest whole new after
 says_over whole feed new coming after says open_yet none has same all over = record {
   events = says.events;
   text = says.text;

@@ -1,12 +1,13 @@
 -- The feed as a command reads it: blocks of lines are read ahead, and the lines taken one after another.
-use Rattle.std.specs.Prelude.{◌≡◌, ℕ, ◌<◌, ◌≤◌, ◌==◌, true, false, List, [], ◌∷◌, ◌++◌, length, map, drop, Option, Some, None, Result, Ok, Err}
-use Rattle.std.specs.List.{list_any, slice_split}
+use Rattle.std.specs.Prelude.{◌≡◌, ℕ, ◌<◌, ◌≤◌, true, false, List, [], ◌∷◌, ◌++◌, length, map, drop, Option, Some, None, Result, Ok, Err}
+use Rattle.std.specs.List.{list_any}
 use Rattle.vx_desk.specs.declared.device.Slot.TheVariants.{Feed}
-use Rattle.vx_fields.specs.Lines.{fields_of_line, line_feed}
+use Rattle.vx_lines.specs.TextLines.{at_end, lines_of}
+use Rattle.vx_fields.specs.Lines.{fields_of_line}
 use Rattle.vx_feed.specs.declared.events.Event.{Event}
 use Rattle.vx_feed.specs.declared.faults.FeedFault.{FeedFault}
 use Rattle.vx_feed.specs.declared.limits.TheConstants.{LINE_LEN_MAX, LINES_MAX}
-use Rattle.vx_feed.specs.Feed.{BadCause, of_fault, too_long, no_eol, missing_end, Reading, next_event, with_cause, stopped_at, reading_at_end, reading_after, reading_from}
+use Rattle.vx_feed.specs.Feed.{BadCause, of_fault, too_long, no_eol, missing_end, Reading, next_event, with_cause, stopped_at, reading_at_end, reading_after, reading_on}
 use Rattle.vx_feed.specs.Noted.{StandsFor, StandsForSome}
 use Rattle.vx_feed.specs.Order.{is_end}
 use Rattle.vx_check.specs.StandsFor as plain
@@ -57,8 +58,8 @@ reading_of_fields more before (fields ∷ lines) =
 
 -- what comes after the lines that were split says, with this text not yet looked at
 abbrev pub reading_of_rest : Rest → List ℕ → List Event → Reading
-reading_of_rest More text before = reading_from before (slice_split (λ byte. byte == line_feed) text)
-reading_of_rest End text before = reading_at_end before []
+reading_of_rest More text before = reading_on before (lines_of LINE_LEN_MAX text)
+reading_of_rest End text before = reading_at_end before at_end
 reading_of_rest (Bad cause) text before = stopped_at before (bad_cause cause)
 
 -- what a block of lines and the rest say after the events before them
@@ -92,7 +93,7 @@ SaysLine said number (Err _) = ⊥
 -- end of the feed, or by the bad line of this number; want of memory says nothing
 abbrev pub TakesNext : Reading → List Event → (List Event → Reading) → ℕ → Result (Option Event) Exit → Type 0
 TakesNext whole events more number (Ok (Some e)) = whole ≡ more (events ++ e ∷ [])
-TakesNext whole events more number (Ok None) = whole ≡ reading_at_end events []
+TakesNext whole events more number (Ok None) = whole ≡ reading_at_end events at_end
 TakesNext whole events more number (Err (BadFeed line cause)) = (line ≡ number) × (whole ≡ stopped_at events (bad_cause cause))
 TakesNext whole events more number (Err NoMemory) = Unit {0}
 TakesNext whole events more number (Err _) = ⊥

@@ -37,6 +37,7 @@ impl FeedReader {
     ghost use Rattle.vx_desk.specs.Lines.{next_number, to_come};
     ghost use Rattle.vx_desk.specs.Told.{Told};
     ghost use Rattle.vx_feed.specs.declared.events.Event.{Event};
+    ghost use Rattle.vx_lines.specs.TextLines.{at_end};
     ghost use Rattle.vx_feed.specs.Feed.{Reading, reading_at_end, reading_of};
     ghost use Rattle.vx_feed.specs.Order.{IsLawfulNext};
     ghost use Rattle.vx_feed.specs.Noted.{MayNote, StandsFor};
@@ -92,8 +93,8 @@ impl FeedReader {
         ensures ahead { self.new.ahead ≡ self.old.ahead }
         ensures taken_up { (events : List Event) → HasTakenUp self.old events → HasTakenUp self.new events }
         ensures over { OnOk result (self.new.is_over ≡ true) }
-        ensures says { (events : List Event) → HasTakenUp self.old events → OnOk result (reading_at_end events [] ≡ reading_of_all events) }
-        ensures bad { (events : List Event) → HasTakenUp self.old events → IfErr result (NamesBadLine (reading_at_end events []) (self.old.count + 1)) }
+        ensures says { (events : List Event) → HasTakenUp self.old events → OnOk result (reading_at_end events at_end ≡ reading_of_all events) }
+        ensures bad { (events : List Event) → HasTakenUp self.old events → IfErr result (NamesBadLine (reading_at_end events at_end) (self.old.count + 1)) }
         ensures stops { IfErr result IsStop }
         ensures cause { IfErr result (λ exit. failed_calls exit ≡ None) }
     {

@@ -1,7 +1,8 @@
 -- A feed as a text: the events of its lawful lines, and its first bad line (this project's own).
-use Rattle.std.specs.Prelude.{◌≡◌, ℕ, ◌+◌, Bool, true, false, not, ◌==◌, nat_lt, List, [], ◌∷◌, ◌++◌, length, Option, Some, None, Result, Ok, Err, if◌then◌else◌}
-use Rattle.std.specs.List.{list_all, list_any, slice_split}
-use Rattle.vx_fields.specs.Lines.{fields_of_line, is_plain, line_feed}
+use Rattle.std.specs.Prelude.{◌≡◌, ℕ, ◌+◌, ◌==◌, List, [], ◌∷◌, ◌++◌, length, Option, Some, None, Result, Ok, Err, if◌then◌else◌}
+use Rattle.std.specs.List.{list_all, list_any}
+use Rattle.vx_lines.specs.TextLines as lines
+use Rattle.vx_fields.specs.Lines.{fields_of_line, is_plain}
 use Rattle.vx_feed.specs.declared.events.Event.{Event}
 use Rattle.vx_feed.specs.declared.faults.FeedFault.{FeedFault}
 use Rattle.vx_feed.specs.declared.faults.FeedFault.TheVariants as fault
@@ -62,35 +63,30 @@ abbrev pub with_cause : Result Event FeedFault → Result Event BadCause
 with_cause (Ok e) = Ok e
 with_cause (Err f) = Err (of_fault f)
 
-abbrev pub event_or_cause : List Event → List ℕ → Result Event BadCause
-event_or_cause before line =
-    if nat_lt LINE_LEN_MAX (length line) then Err too_long else with_cause (event_of_line before line)
-
--- what the bytes behind the last LF say
-abbrev pub reading_at_end : List Event → List ℕ → Reading
-reading_at_end before rest =
-    if nat_lt LINE_LEN_MAX (length rest) then stopped_at before too_long
-    else (if not (length rest == 0) then stopped_at before no_eol
-    else (if list_any is_end before then record { events = before; bad = None } else stopped_at before missing_end))
+-- what the end of a text says after the events of its lines; a line too many has no cause of its own
+abbrev pub reading_at_end : List Event → lines.Ending → Reading
+reading_at_end before lines.at_end =
+    if list_any is_end before then record { events = before; bad = None } else stopped_at before missing_end
+reading_at_end before lines.too_long = stopped_at before too_long
+reading_at_end before lines.no_eol = stopped_at before no_eol
+reading_at_end before lines.too_many = stopped_at before too_long
 
 -- what follows a line: the reading of the lines after it, or the stop at it
 abbrev pub reading_after : (List Event → Reading) → List Event → Result Event BadCause → Reading
 reading_after more before (Ok e) = more (before ++ e ∷ [])
 reading_after more before (Err cause) = stopped_at before cause
 
-abbrev pub is_last : List (List ℕ) → Bool
-is_last [] = true
-is_last (line ∷ lines) = false
+-- what lines, and how the text ends behind them, say after the events of earlier lines
+abbrev pub reading_from : List Event → List (List ℕ) → lines.Ending → Reading
+reading_from before [] ending = reading_at_end before ending
+reading_from before (line ∷ rest) ending =
+    reading_after (λ events. reading_from events rest ending) before (with_cause (event_of_line before line))
 
--- what the pieces of a text between its LFs say after the events of earlier lines
-abbrev pub reading_from : List Event → List (List ℕ) → Reading
-reading_from before [] = reading_at_end before []
-reading_from before (piece ∷ pieces) =
-    if is_last pieces then reading_at_end before piece
-    else reading_after (λ events. reading_from events pieces) before (event_or_cause before piece)
+abbrev pub reading_on : List Event → lines.TextLines → Reading
+reading_on before text = reading_from before text.lines text.ending
 
 abbrev pub reading_of : List ℕ → Reading
-reading_of text = reading_from [] (slice_split (λ byte. byte == line_feed) text)
+reading_of text = reading_on [] (lines.lines_of LINE_LEN_MAX text)
 
 -- the events of the longest list of leading lines that are each lawful next
 abbrev pub lawful_prefix : List ℕ → List Event

@@ -1,6 +1,6 @@
 //! Which lines can be split.
 
-ghost use Rattle.std.specs.Prelude.{◌≡◌};
+ghost use Rattle.std.specs.Prelude.{◌≡◌, None, true};
 ghost use Rattle.std.specs.List.{list_all};
 ghost use Rattle.vx_fields.specs.Lines.{is_plain, is_plain_line, why_unsplit};
 
@@ -35,10 +35,10 @@ pub fn is_plain_line(line: &[u8]) -> bool
     !line.is_empty() && are_plain(line)
 }
 
-/// Why a line can't be split, the first cause that holds; `None` where it can be, just where
-/// `is_plain_line` holds.
+/// Why a line can't be split, the first cause that holds; `None` where it can be.
 pub fn why_unsplit(line: &[u8]) -> Option<Unsplit>
-    ensures { result ≡ why_unsplit line.now }
+    ensures cause { result ≡ why_unsplit line.now }
+    ensures plain { result ≡ None → is_plain_line line.now ≡ true }
 {
     if line.is_empty() {
         Some(Unsplit::Empty)

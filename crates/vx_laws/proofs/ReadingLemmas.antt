@@ -1,14 +1,15 @@
 -- What a text's reading says: lawful events, and the line after them where it is bad.
-use Rattle.std.proofs.Common.{◌≡◌, ◌∙◌, sym, ap, refl, ℕ, ◌+◌, Bool, true, false, cond, not, List, [], ◌∷◌, ◌++◌, length, Option, Some, None, Result, Ok, Err}
-use Rattle.std.specs.Prelude.{nat_lt, ◌==◌}
-use Rattle.std.specs.List.{list_all, list_any, slice_split}
-use Rattle.vx_fields.specs.Lines.{fields_of_line, is_plain, line_feed}
+use Rattle.std.proofs.Common.{◌≡◌, ◌∙◌, sym, ap, refl, ℕ, ◌+◌, Bool, true, false, cond, List, [], ◌∷◌, ◌++◌, length, Option, Some, None, Result, Ok, Err}
+use Rattle.std.specs.Prelude.{◌==◌}
+use Rattle.std.specs.List.{list_all, list_any}
+use Rattle.vx_lines.specs.TextLines as lines
+use Rattle.vx_fields.specs.Lines.{fields_of_line, is_plain}
 use Rattle.vx_feed.specs.declared.events.Event.{Event}
 use Rattle.vx_feed.specs.declared.faults.FeedFault.{FeedFault}
 use Rattle.vx_feed.specs.declared.faults.FeedFault.TheVariants as fault
 use Rattle.vx_feed.specs.declared.limits.TheConstants.{LINE_LEN_MAX}
 use Rattle.vx_feed.specs.Form.{event_of_fields}
-use Rattle.vx_feed.specs.Feed.{event_unless, event_in_order, next_event, event_of_line, BadCause, too_long, no_eol, missing_end, BadLine, Reading, stopped_at, with_cause, event_or_cause, reading_at_end, reading_after, is_last, reading_from, reading_of}
+use Rattle.vx_feed.specs.Feed.{event_unless, event_in_order, next_event, event_of_line, BadCause, too_long, no_eol, missing_end, BadLine, Reading, stopped_at, with_cause, reading_at_end, reading_after, reading_from, reading_of}
 use Rattle.vx_feed.specs.Order.{is_end, order_fault, IsLawfulNext, AreLawful}
 use Rattle.vx_laws.specs.LawfulPrefixes.{PrefixIsLawful, BadLineFollowsPrefix, LawfulFeedEnds}
 use Rattle.vx_laws.proofs.EventRanges.{past_fault, past_test, event_in_range}
@@ -36,11 +37,10 @@ cause_ok : (r : Result Event FeedFault) (e : Event) → with_cause r ≡ Ok e �
 cause_ok (Ok x) e h = let same : x ≡ e = cc in ap Ok same
 cause_ok (Err f) e h = absurd cc
 
-line_is_lawful : (before : List Event) (line : List ℕ) (e : Event) → event_or_cause before line ≡ Ok e → IsLawfulNext before e
+line_is_lawful : (before : List Event) (line : List ℕ) (e : Event) → with_cause (event_of_line before line) ≡ Ok e → IsLawfulNext before e
 line_is_lawful before line e h =
     let split = cond (list_all is_plain line) (next_event before (fields_of_line line)) (Err fault.Byte) in
-    let short = past_fault (nat_lt LINE_LEN_MAX (length line)) too_long (with_cause (event_of_line before line)) e h in
-    let filled = past_fault (length line == 0) fault.Kind split e (cause_ok (event_of_line before line) e short.1) in
+    let filled = past_fault (length line == 0) fault.Kind split e (cause_ok (event_of_line before line) e h) in
     let plain = past_test (list_all is_plain line) fault.Byte (next_event before (fields_of_line line)) e filled.1 in
     next_is_lawful before (fields_of_line line) e plain.1
 
@@ -65,31 +65,24 @@ end_told : (before : List Event) (c : Bool) → list_any is_end before ≡ c →
 end_told before true e h = record { lawful = h; follows = λ bad none. absurd cc; ends = λ none. e }
 end_told before false e h = stop_told before missing_end h
 
-either_told : (c : Bool) (a b : Reading) → IsTold a → IsTold b → IsTold (cond c a b)
-either_told true a b h k = h
-either_told false a b h k = k
-
-at_end_told : (before : List Event) (rest : List ℕ) → AreLawful before → IsTold (reading_at_end before rest)
-at_end_told before rest h =
-    let ended : Reading = cond (list_any is_end before) (record { events = before; bad = None }) (stopped_at before missing_end) in
-    either_told (nat_lt LINE_LEN_MAX (length rest)) (stopped_at before too_long) (cond (not (length rest == 0)) (stopped_at before no_eol) ended)
-    (stop_told before too_long h)
-    (either_told (not (length rest == 0)) (stopped_at before no_eol) ended (stop_told before no_eol h) (end_told before (list_any is_end before) refl h))
+at_end_told : (before : List Event) (ending : lines.Ending) → AreLawful before → IsTold (reading_at_end before ending)
+at_end_told before lines.at_end h = end_told before (list_any is_end before) refl h
+at_end_told before lines.too_long h = stop_told before too_long h
+at_end_told before lines.no_eol h = stop_told before no_eol h
+at_end_told before lines.too_many h = stop_told before too_long h
 
 after_told : (more : List Event → Reading) (before : List Event) (r : Result Event BadCause) → AreLawful before
     → ((e : Event) → r ≡ Ok e → IsLawfulNext before e) → ((events : List Event) → AreLawful events → IsTold (more events)) → IsTold (reading_after more before r)
 after_told more before (Ok e) h next told = told (before ++ e ∷ []) (lawful_with_one_more before e h (next e refl))
 after_told more before (Err cause) h next told = stop_told before cause h
 
-from_told : (pieces : List (List ℕ)) (before : List Event) → AreLawful before → IsTold (reading_from before pieces)
-from_told [] before h = at_end_told before [] h
-from_told (piece ∷ pieces) before h =
-    either_told (is_last pieces) (reading_at_end before piece) (reading_after (λ events. reading_from events pieces) before (event_or_cause before piece))
-    (at_end_told before piece h)
-    (after_told (λ events. reading_from events pieces) before (event_or_cause before piece) h (line_is_lawful before piece) (from_told pieces))
+from_told : (rest : List (List ℕ)) (ending : lines.Ending) (before : List Event) → AreLawful before → IsTold (reading_from before rest ending)
+from_told [] ending before h = at_end_told before ending h
+from_told (line ∷ rest) ending before h =
+    after_told (λ events. reading_from events rest ending) before (with_cause (event_of_line before line)) h (line_is_lawful before line) (from_told rest ending)
 
 told : (text : List ℕ) → IsTold (reading_of text)
-told text = from_told (slice_split (λ byte. byte == line_feed) text) [] tt
+told text = from_told (lines.lines_of LINE_LEN_MAX text).lines (lines.lines_of LINE_LEN_MAX text).ending [] tt
 
 pub prefix_is_lawful : PrefixIsLawful
 prefix_is_lawful text = (told text).lawful

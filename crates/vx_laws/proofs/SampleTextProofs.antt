@@ -1,21 +1,22 @@
 -- The text of the first sample feed, read line by line.
 use Rattle.std.proofs.Common.{◌≡◌, refl, ap, ◌∙◌, ℕ, true, false, cond, ℤ, pos, List, [], ◌∷◌, ◌++◌, take, drop, length, None, Result, Ok, Err, arith}
-use Rattle.std.specs.Prelude.{codes, nat_lt, ◌==◌}
-use Rattle.std.specs.List.{list_all, slice_split}
+use Rattle.std.specs.Prelude.{codes, ◌==◌}
+use Rattle.std.specs.List.{list_all}
 use Rattle.std.proofs.lemmas.Bool.{cond-true, cond-false}
 use Rattle.jiff_core.specs.Calendar.{days_from_civil, days_of_months}
 use Rattle.vx_num.specs.Decimal.{decimal_of}
 use Rattle.vx_clock.specs.declared.terms.Root.TheVariants.{Spx}
 use Rattle.vx_symbol.specs.declared.symbols.Side.{Side}
 use Rattle.vx_symbol.specs.declared.symbols.Side.TheVariants.{Call, Put}
-use Rattle.vx_fields.specs.Lines.{fields_of_line, is_plain, line_feed, text_of}
+use Rattle.vx_lines.specs.TextLines.{at_end, lines_of, text_of}
+use Rattle.vx_fields.specs.Lines.{fields_of_line, is_plain}
 use Rattle.vx_feed.specs.declared.events.Event.{Event}
 use Rattle.vx_feed.specs.declared.events.Event.TheVariants as event
 use Rattle.vx_feed.specs.declared.faults.FeedFault.{FeedFault}
 use Rattle.vx_feed.specs.declared.faults.FeedFault.TheVariants as fault
 use Rattle.vx_feed.specs.declared.limits.TheConstants.{LINE_LEN_MAX}
 use Rattle.vx_feed.specs.Form.{event_of_fields}
-use Rattle.vx_feed.specs.Feed.{event_unless, event_in_order, next_event, event_of_line, too_long, Reading, with_cause, event_or_cause, reading_after, reading_from}
+use Rattle.vx_feed.specs.Feed.{event_unless, event_in_order, next_event, event_of_line, Reading, with_cause, reading_after, reading_from, reading_on}
 use Rattle.vx_feed.specs.Order.{order_fault}
 use Rattle.vx_laws.specs.FeedDays.{september_17, standard, call_at, put_at, sample_feed}
 use Rattle.vx_laws.specs.SampleText.{sample_lines, SampleTextIsRead, SampleTextIsLawful}
@@ -112,49 +113,43 @@ unfolding decimal_of
 says_end = refl
 
 -- a line that says an event which may come next is read as it
-is_read : (before : List Event) (line : List ℕ) (e : Event) → nat_lt LINE_LEN_MAX (length line) ≡ false → (length line == 0) ≡ false → list_all is_plain line ≡ true
-    → Says line e → order_fault before e ≡ None → event_or_cause before line ≡ Ok e
-is_read before line e short filled plain says order =
+is_read : (before : List Event) (line : List ℕ) (e : Event) → (length line == 0) ≡ false → list_all is_plain line ≡ true
+    → Says line e → order_fault before e ≡ None → with_cause (event_of_line before line) ≡ Ok e
+is_read before line e filled plain says order =
     let next : Result Event FeedFault = next_event before (fields_of_line line) in
-    cond-false (nat_lt LINE_LEN_MAX (length line)) (Err too_long) (with_cause (event_of_line before line)) short
-    ∙ ap with_cause (cond-false (length line == 0) (Err fault.Kind) (cond (list_all is_plain line) next (Err fault.Byte)) filled
+    ap with_cause (cond-false (length line == 0) (Err fault.Kind) (cond (list_all is_plain line) next (Err fault.Byte)) filled
     ∙ cond-true (list_all is_plain line) next (Err fault.Byte) plain
     ∙ ap (event_in_order before) says
     ∙ ap (λ o. event_unless o e) order)
 
-step : (before : List Event) (line next : List ℕ) (rest : List (List ℕ)) (e : Event) → event_or_cause before line ≡ Ok e
-    → reading_from before (line ∷ next ∷ rest) ≡ reading_from (before ++ e ∷ []) (next ∷ rest)
-step before line next rest e h = ap (λ r. reading_after (λ events. reading_from events (next ∷ rest)) before r) h
+step : (before : List Event) (line : List ℕ) (rest : List (List ℕ)) (e : Event) → with_cause (event_of_line before line) ≡ Ok e
+    → reading_from before (line ∷ rest) at_end ≡ reading_from (before ++ e ∷ []) rest at_end
+step before line rest e h = ap (reading_after (λ events. reading_from events rest at_end) before) h
 
--- the pieces between the text's LFs: the lines, and nothing behind the last
-pieces : List (List ℕ)
-pieces = sample_lines ++ [] ∷ []
+-- the text's lines, and nothing behind the last
+lines_are : lines_of LINE_LEN_MAX (text_of sample_lines) ≡ record { lines = sample_lines; ending = at_end }
+lines_are = refl
 
-pieces_are : slice_split (λ byte. byte == line_feed) (text_of sample_lines) ≡ pieces
-unfolding pieces
-pieces_are = refl
-
-read_pieces : reading_from [] pieces ≡ record { events = sample_feed; bad = None }
-unfolding pieces
-read_pieces =
-    step (take 0 sample_feed) (codes "H,1,2014-09-17") (codes "E,SPX,2014-10-17") (drop 2 (sample_lines ++ [] ∷ [])) (event.Header september_17) (is_read (take 0 sample_feed) (codes "H,1,2014-09-17") (event.Header september_17) refl refl refl says_header refl)
-    ∙ step (take 1 sample_feed) (codes "E,SPX,2014-10-17") (codes "R,SPX,2014-10-17,0") (drop 3 (sample_lines ++ [] ∷ [])) (event.Expiry standard) (is_read (take 1 sample_feed) (codes "E,SPX,2014-10-17") (event.Expiry standard) refl refl refl says_expiry refl)
-    ∙ step (take 2 sample_feed) (codes "R,SPX,2014-10-17,0") (codes "S,SPX   141017C01900000") (drop 4 (sample_lines ++ [] ∷ [])) (event.Rate standard (pos 0)) (is_read (take 2 sample_feed) (codes "R,SPX,2014-10-17,0") (event.Rate standard (pos 0)) refl refl refl says_rate refl)
-    ∙ step (take 3 sample_feed) (codes "S,SPX   141017C01900000") (codes "S,SPX   141017P01900000") (drop 5 (sample_lines ++ [] ∷ [])) (event.Series (call_at 1900000)) (is_read (take 3 sample_feed) (codes "S,SPX   141017C01900000") (event.Series (call_at 1900000)) refl refl refl says_call_1900 refl)
-    ∙ step (take 4 sample_feed) (codes "S,SPX   141017P01900000") (codes "S,SPX   141017C02000000") (drop 6 (sample_lines ++ [] ∷ [])) (event.Series (put_at 1900000)) (is_read (take 4 sample_feed) (codes "S,SPX   141017P01900000") (event.Series (put_at 1900000)) refl refl refl says_put_1900 refl)
-    ∙ step (take 5 sample_feed) (codes "S,SPX   141017C02000000") (codes "S,SPX   141017P02000000") (drop 7 (sample_lines ++ [] ∷ [])) (event.Series (call_at 2000000)) (is_read (take 5 sample_feed) (codes "S,SPX   141017C02000000") (event.Series (call_at 2000000)) refl refl refl says_call_2000 refl)
-    ∙ step (take 6 sample_feed) (codes "S,SPX   141017P02000000") (codes "S,SPX   141017C02100000") (drop 8 (sample_lines ++ [] ∷ [])) (event.Series (put_at 2000000)) (is_read (take 6 sample_feed) (codes "S,SPX   141017P02000000") (event.Series (put_at 2000000)) refl refl refl says_put_2000 refl)
-    ∙ step (take 7 sample_feed) (codes "S,SPX   141017C02100000") (codes "S,SPX   141017P02100000") (drop 9 (sample_lines ++ [] ∷ [])) (event.Series (call_at 2100000)) (is_read (take 7 sample_feed) (codes "S,SPX   141017C02100000") (event.Series (call_at 2100000)) refl refl refl says_call_2100 refl)
-    ∙ step (take 8 sample_feed) (codes "S,SPX   141017P02100000") (codes "Q,08:30,SPX   141017P01900000,10.00,10.00") (drop 10 (sample_lines ++ [] ∷ [])) (event.Series (put_at 2100000)) (is_read (take 8 sample_feed) (codes "S,SPX   141017P02100000") (event.Series (put_at 2100000)) refl refl refl says_put_2100 refl)
-    ∙ step (take 9 sample_feed) (codes "Q,08:30,SPX   141017P01900000,10.00,10.00") (codes "Q,08:30,SPX   141017C02000000,50.00,50.00") (drop 11 (sample_lines ++ [] ∷ [])) (event.Quote 510 (put_at 1900000) 1000 1000) (is_read (take 9 sample_feed) (codes "Q,08:30,SPX   141017P01900000,10.00,10.00") (event.Quote 510 (put_at 1900000) 1000 1000) refl refl refl says_quote_put_1900 refl)
-    ∙ step (take 10 sample_feed) (codes "Q,08:30,SPX   141017C02000000,50.00,50.00") (codes "Q,08:30,SPX   141017P02000000,50.00,50.00") (drop 12 (sample_lines ++ [] ∷ [])) (event.Quote 510 (call_at 2000000) 5000 5000) (is_read (take 10 sample_feed) (codes "Q,08:30,SPX   141017C02000000,50.00,50.00") (event.Quote 510 (call_at 2000000) 5000 5000) refl refl refl says_quote_call_2000 refl)
-    ∙ step (take 11 sample_feed) (codes "Q,08:30,SPX   141017P02000000,50.00,50.00") (codes "Q,08:30,SPX   141017C02100000,10.00,10.00") (drop 13 (sample_lines ++ [] ∷ [])) (event.Quote 510 (put_at 2000000) 5000 5000) (is_read (take 11 sample_feed) (codes "Q,08:30,SPX   141017P02000000,50.00,50.00") (event.Quote 510 (put_at 2000000) 5000 5000) refl refl refl says_quote_put_2000 refl)
-    ∙ step (take 12 sample_feed) (codes "Q,08:30,SPX   141017C02100000,10.00,10.00") (codes "V,08:30") (drop 14 (sample_lines ++ [] ∷ [])) (event.Quote 510 (call_at 2100000) 1000 1000) (is_read (take 12 sample_feed) (codes "Q,08:30,SPX   141017C02100000,10.00,10.00") (event.Quote 510 (call_at 2100000) 1000 1000) refl refl refl says_quote_call_2100 refl)
-    ∙ step (take 13 sample_feed) (codes "V,08:30") (codes "END,13") (drop 15 (sample_lines ++ [] ∷ [])) (event.Tick 510) (is_read (take 13 sample_feed) (codes "V,08:30") (event.Tick 510) refl refl refl says_tick refl)
-    ∙ step (take 14 sample_feed) (codes "END,13") [] (drop 16 (sample_lines ++ [] ∷ [])) (event.End 13) (is_read (take 14 sample_feed) (codes "END,13") (event.End 13) refl refl refl says_end refl)
+read_lines : reading_from [] sample_lines at_end ≡ record { events = sample_feed; bad = None }
+read_lines =
+    step (take 0 sample_feed) (codes "H,1,2014-09-17") (drop 1 sample_lines) (event.Header september_17) (is_read (take 0 sample_feed) (codes "H,1,2014-09-17") (event.Header september_17) refl refl says_header refl)
+    ∙ step (take 1 sample_feed) (codes "E,SPX,2014-10-17") (drop 2 sample_lines) (event.Expiry standard) (is_read (take 1 sample_feed) (codes "E,SPX,2014-10-17") (event.Expiry standard) refl refl says_expiry refl)
+    ∙ step (take 2 sample_feed) (codes "R,SPX,2014-10-17,0") (drop 3 sample_lines) (event.Rate standard (pos 0)) (is_read (take 2 sample_feed) (codes "R,SPX,2014-10-17,0") (event.Rate standard (pos 0)) refl refl says_rate refl)
+    ∙ step (take 3 sample_feed) (codes "S,SPX   141017C01900000") (drop 4 sample_lines) (event.Series (call_at 1900000)) (is_read (take 3 sample_feed) (codes "S,SPX   141017C01900000") (event.Series (call_at 1900000)) refl refl says_call_1900 refl)
+    ∙ step (take 4 sample_feed) (codes "S,SPX   141017P01900000") (drop 5 sample_lines) (event.Series (put_at 1900000)) (is_read (take 4 sample_feed) (codes "S,SPX   141017P01900000") (event.Series (put_at 1900000)) refl refl says_put_1900 refl)
+    ∙ step (take 5 sample_feed) (codes "S,SPX   141017C02000000") (drop 6 sample_lines) (event.Series (call_at 2000000)) (is_read (take 5 sample_feed) (codes "S,SPX   141017C02000000") (event.Series (call_at 2000000)) refl refl says_call_2000 refl)
+    ∙ step (take 6 sample_feed) (codes "S,SPX   141017P02000000") (drop 7 sample_lines) (event.Series (put_at 2000000)) (is_read (take 6 sample_feed) (codes "S,SPX   141017P02000000") (event.Series (put_at 2000000)) refl refl says_put_2000 refl)
+    ∙ step (take 7 sample_feed) (codes "S,SPX   141017C02100000") (drop 8 sample_lines) (event.Series (call_at 2100000)) (is_read (take 7 sample_feed) (codes "S,SPX   141017C02100000") (event.Series (call_at 2100000)) refl refl says_call_2100 refl)
+    ∙ step (take 8 sample_feed) (codes "S,SPX   141017P02100000") (drop 9 sample_lines) (event.Series (put_at 2100000)) (is_read (take 8 sample_feed) (codes "S,SPX   141017P02100000") (event.Series (put_at 2100000)) refl refl says_put_2100 refl)
+    ∙ step (take 9 sample_feed) (codes "Q,08:30,SPX   141017P01900000,10.00,10.00") (drop 10 sample_lines) (event.Quote 510 (put_at 1900000) 1000 1000) (is_read (take 9 sample_feed) (codes "Q,08:30,SPX   141017P01900000,10.00,10.00") (event.Quote 510 (put_at 1900000) 1000 1000) refl refl says_quote_put_1900 refl)
+    ∙ step (take 10 sample_feed) (codes "Q,08:30,SPX   141017C02000000,50.00,50.00") (drop 11 sample_lines) (event.Quote 510 (call_at 2000000) 5000 5000) (is_read (take 10 sample_feed) (codes "Q,08:30,SPX   141017C02000000,50.00,50.00") (event.Quote 510 (call_at 2000000) 5000 5000) refl refl says_quote_call_2000 refl)
+    ∙ step (take 11 sample_feed) (codes "Q,08:30,SPX   141017P02000000,50.00,50.00") (drop 12 sample_lines) (event.Quote 510 (put_at 2000000) 5000 5000) (is_read (take 11 sample_feed) (codes "Q,08:30,SPX   141017P02000000,50.00,50.00") (event.Quote 510 (put_at 2000000) 5000 5000) refl refl says_quote_put_2000 refl)
+    ∙ step (take 12 sample_feed) (codes "Q,08:30,SPX   141017C02100000,10.00,10.00") (drop 13 sample_lines) (event.Quote 510 (call_at 2100000) 1000 1000) (is_read (take 12 sample_feed) (codes "Q,08:30,SPX   141017C02100000,10.00,10.00") (event.Quote 510 (call_at 2100000) 1000 1000) refl refl says_quote_call_2100 refl)
+    ∙ step (take 13 sample_feed) (codes "V,08:30") (drop 14 sample_lines) (event.Tick 510) (is_read (take 13 sample_feed) (codes "V,08:30") (event.Tick 510) refl refl says_tick refl)
+    ∙ step (take 14 sample_feed) (codes "END,13") (drop 15 sample_lines) (event.End 13) (is_read (take 14 sample_feed) (codes "END,13") (event.End 13) refl refl says_end refl)
 
 pub sample_text_is_read : SampleTextIsRead
-sample_text_is_read = ap (reading_from []) pieces_are ∙ read_pieces
+sample_text_is_read = ap (reading_on []) lines_are ∙ read_lines
 
 pub sample_text_is_lawful : SampleTextIsLawful
 sample_text_is_lawful = ap (λ (r : Reading). r.bad) sample_text_is_read

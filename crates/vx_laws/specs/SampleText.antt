@@ -1,6 +1,6 @@
 -- The text of the first sample feed, and that it is read as the worked day's events.
 use Rattle.std.specs.Prelude.{◌≡◌, ℕ, List, [], ◌∷◌, None, codes}
-use Rattle.vx_fields.specs.Lines.{text_of}
+use Rattle.vx_lines.specs.TextLines.{text_of}
 use Rattle.vx_feed.specs.Feed.{reading_of, IsLawfulFeed}
 use Rattle.vx_laws.specs.FeedDays.{sample_feed}
 

@@ -1,11 +1,12 @@
 -- What a line of a position says (the form is this project's own). A line's fields are the pieces between
 -- its commas, counted from 1: the contract, the quantity and the last price.
-use Rattle.std.specs.Prelude.{ℕ, ◌-◌, ◌==◌, ℤ, pos, neg_ℤ, List, [], length, drop, codes, bytes_eq, slice_index, slice_index_or, Option, Some, None, Result, Ok, Err, if◌then◌else◌}
-use Rattle.std.specs.List.{list_all}
+use Rattle.std.specs.Prelude.{ℕ, ◌==◌, ℤ, pos, neg_ℤ, List, length, drop, codes, bytes_eq, slice_index, Option, Some, None, Result, Ok, Err, if◌then◌else◌}
 use Rattle.std.specs.Option.{option_map}
 use Rattle.std.specs.Result.{result_ok}
 use Rattle.vx_num.specs.Decimal.{decimal_of}
-use Rattle.vx_fields.specs.Lines.{fields_of_line, is_plain}
+use Rattle.vx_fields.specs.Lines.{field, fields_of_line, why_unsplit}
+use Rattle.vx_fields.specs.declared.line.Unsplit.{Unsplit}
+use Rattle.vx_fields.specs.declared.line.Unsplit.TheVariants.{Empty, Byte}
 use Rattle.vx_settle.specs.declared.fault.PositionFault.{PositionFault}
 use Rattle.vx_settle.specs.declared.fault.PositionFault.TheVariants as fault
 use Rattle.vx_settle.specs.declared.limits.TheConstants.{LAST_MAX, QUANTITY_MAX}
@@ -40,10 +41,6 @@ position_of_parts (Some c) None _ = Err (fault.Field 2)
 position_of_parts (Some c) (Some n) None = Err (fault.Field 3)
 position_of_parts (Some c) (Some n) (Some price) = Ok (record { contract = c; quantity = n; last = price })
 
--- the n-th field, from 1
-abbrev pub field : List (List ℕ) → ℕ → List ℕ
-field fields n = slice_index_or fields (n - 1) []
-
 -- the position of a line's fields, or else the first fault
 abbrev pub position_of_fields : List (List ℕ) → Result Position PositionFault
 position_of_fields f =
@@ -51,14 +48,19 @@ position_of_fields f =
     then position_of_parts (contract_of_text (field f 1)) (quantity_of_text (field f 2)) (last_of_text (field f 3))
     else Err fault.Fields
 
--- the fault of a line that has no fields: a byte of it is not plain, or it is empty
+-- the fault of a line that has no fields
+abbrev pub fault_of_unsplit : Unsplit → PositionFault
+fault_of_unsplit Empty = fault.Fields
+fault_of_unsplit Byte = fault.Byte
+
 abbrev pub unsplit_fault : List ℕ → Option PositionFault
-unsplit_fault line =
-    if list_all is_plain line then (if length line == 0 then Some fault.Fields else None) else Some fault.Byte
+unsplit_fault line = option_map fault_of_unsplit (why_unsplit line)
+
+-- the position of a line that can be split, or the fault of one that can't
+abbrev pub position_unless : Option PositionFault → List ℕ → Result Position PositionFault
+position_unless (Some fault) line = Err fault
+position_unless None line = position_of_fields (fields_of_line line)
 
 -- the position of a line, or else the first fault
 abbrev pub position_of_line : List ℕ → Result Position PositionFault
-position_of_line line =
-    if list_all is_plain line
-    then (if length line == 0 then Err fault.Fields else position_of_fields (fields_of_line line))
-    else Err fault.Byte
+position_of_line line = position_unless (unsplit_fault line) line

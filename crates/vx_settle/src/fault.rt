@@ -1,4 +1,7 @@
+//! Why a line is no position.
+
 use thiserror::Error;
+use vx_num::NoMemory;
 
 /// Why a line is no position. Of several causes the first that holds, in this order, is answered.
 #[derive(Clone, Copy, Debug, PartialEq, Eq, Error)]
@@ -15,4 +18,15 @@ pub enum PositionFault {
     /// The first field, counted from 1, that is not of its form or range.
     #[error("field {0} is not of its form or range")]
     Field(u32),
+}
+
+impl From<NoMemory> for PositionFault {
+    ghost use Rattle.std.specs.Prelude.{◌≡◌};
+    ghost use Rattle.vx_settle.specs.declared.fault.PositionFault.TheVariants.{NoMemory as no_memory};
+
+    ghost from_gives = { λ _ fault. fault ≡ no_memory };
+
+    fn from(_refused: NoMemory) -> PositionFault {
+        PositionFault::NoMemory
+    }
 }

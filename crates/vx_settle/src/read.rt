@@ -1,28 +1,35 @@
 //! Reading the lines of positions.
 
-ghost use Rattle.std.specs.Prelude.{◌≡◌, ◌⊎◌, [], ◌∷◌, true, IfOk};
+ghost use Rattle.std.specs.Prelude.{◌≡◌, ◌⊎◌, [], ◌∷◌, None, true, IfOk};
 ghost use Rattle.vx_fields.specs.Lines.{fields_of_line, is_plain_line};
-ghost use Rattle.vx_settle.specs.Form.{position_of_line, unsplit_fault};
+ghost use Rattle.vx_settle.specs.Form.{fault_of_unsplit, position_of_line, unsplit_fault};
 ghost use Rattle.vx_settle.specs.Position.{IsPositionInRange};
 
 use crate::fault::PositionFault;
 use crate::form::position_of_fields;
 use crate::position::Position;
 use std::alloc::Global;
-use vx_fields::{FieldTable, LineBlock, is_plain_line};
+use vx_fields::{FieldTable, LineBlock, Unsplit, why_unsplit};
 use vx_num::NoMemory;
+
+fn fault_of_unsplit(cause: Unsplit) -> PositionFault
+    ensures { result ≡ fault_of_unsplit cause }
+{
+    match cause {
+        Unsplit::Empty => PositionFault::Fields,
+        Unsplit::Byte => PositionFault::Byte,
+    }
+}
 
 /// The fault of a line that can't be split into fields: `Fields` where it is empty, `Byte` where it has
 /// a byte outside 0x20 to 0x7E or a double quote. Every other line can be split.
 pub fn line_fault(line: &[u8]) -> Option<PositionFault>
-    ensures { result ≡ unsplit_fault line.now }
+    ensures fault { result ≡ unsplit_fault line.now }
+    ensures plain { result ≡ None → is_plain_line line.now ≡ true }
 {
-    if line.is_empty() {
-        Some(PositionFault::Fields)
-    } else if is_plain_line(line) {
-        None
-    } else {
-        Some(PositionFault::Byte)
+    match why_unsplit(line) {
+        Some(cause) => Some(fault_of_unsplit(cause)),
+        None => None,
     }
 }
 
@@ -52,8 +59,6 @@ pub fn read_position(alloc: Global, line: &[u8]) -> Result<Position, PositionFau
     if let Some(fault) = line_fault(line) {
         return Err(fault);
     }
-    match split(alloc, line) {
-        Ok(table) => position_of_fields(&table.line(0)),
-        Err(NoMemory) => Err(PositionFault::NoMemory),
-    }
+    let table = split(alloc, line)?;
+    position_of_fields(&table.line(0))
 }

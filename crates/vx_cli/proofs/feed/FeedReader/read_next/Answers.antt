@@ -3,6 +3,7 @@ use Rattle.std.proofs.lemmas.Result.{err_from_is_err_and}
 use Rattle.vx_desk.specs.declared.device.Slot.TheVariants.{Feed}
 use Rattle.vx_desk.specs.Lines.{ReaderState, to_come}
 use Rattle.vx_feed.specs.declared.events.Event.{Event}
+use Rattle.vx_lines.specs.TextLines.{at_end}
 use Rattle.vx_feed.specs.Feed.{Reading, reading_at_end}
 use Rattle.vx_feed.specs.Order.{IsLawfulNext}
 use Rattle.vx_cli.specs.declared.ahead.LinesAhead.{LinesAhead}
@@ -28,7 +29,7 @@ pub returns-in_default-clause-says : goal.returns-in_default-clause-says
 returns-in_default-clause-says g c = λ whole start.
     let on = says_read_on whole c.args.self.now c.read_on.new.self (to_come c.args.self.now.ahead.lines (g.D.Desk.told c.args.desk.now Feed)) (to_come c.read_on.new.self.lines (g.D.Desk.told c.read_on.new.desk Feed)) c.requires.open_yet start c.in_ok-read_on.ensures.says in
     let more = reading_ahead c.take.new.self on.text in
-    let none : reading_ahead c.read_on.new.self on.text on.events ≡ reading_at_end on.events [] =
+    let none : reading_ahead c.read_on.new.self on.text on.events ≡ reading_at_end on.events at_end =
     subst (λ (found : Option Event). TakesNext (reading_ahead c.read_on.new.self on.text on.events) on.events more c.saturating_add-number.result (Ok found)) c.in_default.is (c.in_ok-event.ensures.says on.events on.text on.taken_up.order) in
     let has = still_taken_up (with_ahead c.args.self.now c.read_on.new.self) (with_ahead c.args.self.now c.take.new.self) on.events refl refl refl refl on.taken_up in
     both_ok c.end.result (c.end.ensures.says on.events has) c.end.ensures.over
@@ -39,10 +40,10 @@ pub returns-in_default-clause-bad : goal.returns-in_default-clause-bad
 returns-in_default-clause-bad g c = λ whole start.
     let on = says_read_on whole c.args.self.now c.read_on.new.self (to_come c.args.self.now.ahead.lines (g.D.Desk.told c.args.desk.now Feed)) (to_come c.read_on.new.self.lines (g.D.Desk.told c.read_on.new.desk Feed)) c.requires.open_yet start c.in_ok-read_on.ensures.says in
     let more = reading_ahead c.take.new.self on.text in
-    let none : reading_ahead c.read_on.new.self on.text on.events ≡ reading_at_end on.events [] =
+    let none : reading_ahead c.read_on.new.self on.text on.events ≡ reading_at_end on.events at_end =
     subst (λ (found : Option Event). TakesNext (reading_ahead c.read_on.new.self on.text on.events) on.events more c.saturating_add-number.result (Ok found)) c.in_default.is (c.in_ok-event.ensures.says on.events on.text on.taken_up.order) in
     let has = still_taken_up (with_ahead c.args.self.now c.read_on.new.self) (with_ahead c.args.self.now c.take.new.self) on.events refl refl refl refl on.taken_up in
-    err_within whole (reading_at_end on.events []) (c.args.self.now.count + 1) c.end.result (on.rest c.requires.open_yet ∙ none) (c.end.ensures.bad on.events has)
+    err_within whole (reading_at_end on.events at_end) (c.args.self.now.count + 1) c.end.result (on.rest c.requires.open_yet ∙ none) (c.end.ensures.bad on.events has)
 
 pub returns-in-Ok-clause-says : goal.returns-in-Ok-clause-says
 returns-in-Ok-clause-says g c = λ whole start.
