@@ -12,7 +12,10 @@ use Rattle.vx_feed.specs.Listed.{declared_expiries, is_declared, listed_rows}
 use Rattle.vx_feed.proofs.NextEvent.{next_rate, next_declared}
 use Rattle.vx_cert.specs.declared.certificate.Pair.{Pair}
 use Rattle.vx_formula.specs.Pair.{IsClosestPair}
-use Rattle.vx_claims.specs.TermTests.{Test, A1, A2, A3, A4, A5, A6, A7, A8, A9, A10, A11, A12, A13, A14, A15, A16, test_number, stated_pair, IsLevelOfEnds}
+use Rattle.vx_claims.specs.declared.acceptance.Test.{Test}
+use Rattle.vx_claims.specs.declared.acceptance.Test.TheVariants.{Place, Terms, Minutes, Rate, TaylorTerms, Exponential, ClosestPair, Forward, Level, Excess, Strip, Contributions, Total, Variance, Square, IndexEnds}
+use Rattle.vx_claims.specs.Test.{test_number}
+use Rattle.vx_claims.specs.TermTests.{stated_pair, IsLevelOfEnds}
 use Rattle.vx_claims.specs.Seen.{IsTickAt, events_before}
 use Rattle.vx_claims.specs.Accepts.{scale_of, zero_rate_forward, FirstFailing, K0Meets}
 use Rattle.vx_check.specs.declared.book.PlainBook.{PlainBook}
@@ -27,23 +30,23 @@ use Rattle.vx_check.proofs.NextSeries.{rows_as_before}
 
 -- ---- tests met by one are met by the other
 
-first_or_later : (test : Test) → (test ≡ A1) ⊎ (1 < test_number test)
-first_or_later A1 = inl refl
-first_or_later A2 = inr (omega arith)
-first_or_later A3 = inr (omega arith)
-first_or_later A4 = inr (omega arith)
-first_or_later A5 = inr (omega arith)
-first_or_later A6 = inr (omega arith)
-first_or_later A7 = inr (omega arith)
-first_or_later A8 = inr (omega arith)
-first_or_later A9 = inr (omega arith)
-first_or_later A10 = inr (omega arith)
-first_or_later A11 = inr (omega arith)
-first_or_later A12 = inr (omega arith)
-first_or_later A13 = inr (omega arith)
-first_or_later A14 = inr (omega arith)
-first_or_later A15 = inr (omega arith)
-first_or_later A16 = inr (omega arith)
+first_or_later : (test : Test) → (test ≡ Place) ⊎ (1 < test_number test)
+first_or_later Place = inl refl
+first_or_later Terms = inr (omega arith)
+first_or_later Minutes = inr (omega arith)
+first_or_later Rate = inr (omega arith)
+first_or_later TaylorTerms = inr (omega arith)
+first_or_later Exponential = inr (omega arith)
+first_or_later ClosestPair = inr (omega arith)
+first_or_later Forward = inr (omega arith)
+first_or_later Level = inr (omega arith)
+first_or_later Excess = inr (omega arith)
+first_or_later Strip = inr (omega arith)
+first_or_later Contributions = inr (omega arith)
+first_or_later Total = inr (omega arith)
+first_or_later Variance = inr (omega arith)
+first_or_later Square = inr (omega arith)
+first_or_later IndexEnds = inr (omega arith)
 
 none_before_first : (test : Test) → test_number test < 1 → ⊥
 none_before_first test h =
@@ -53,7 +56,7 @@ none_before_first test h =
     ]
 
 -- the same verdict, where the first test says the same and the others do once it is met
-module _ (B E : Test → Type 0) (to : B A1 → E A1) (from : E A1 → B A1) (forth : E A1 → (test : Test) → B test → E test) (back : E A1 → (test : Test) → E test → B test) where
+module _ (B E : Test → Type 0) (to : B Place → E Place) (from : E Place → B Place) (forth : E Place → (test : Test) → B test → E test) (back : E Place → (test : Test) → E test → B test) where
   first_failing_over : (test : Test) → FirstFailing B test → FirstFailing E test
   first_failing_over test h =
       elim (first_or_later test) [
@@ -62,7 +65,7 @@ module _ (B E : Test → Type 0) (to : B A1 → E A1) (from : E A1 → B A1) (fo
           all_before = λ other low. absurd (none_before_first other low);
         })
         | inr later ↦
-            let first = to (h.all_before A1 later) in
+            let first = to (h.all_before Place later) in
             record {
               fails = λ met. h.fails (back first test met);
               all_before = λ other low. forth first other (h.all_before other low);
@@ -70,7 +73,7 @@ module _ (B E : Test → Type 0) (to : B A1 → E A1) (from : E A1 → B A1) (fo
       ]
 
   pub verdict_over : (verdict : Verdict) → IsVerdict B verdict → IsVerdict E verdict
-  verdict_over Yes h = λ test. forth (to (h A1)) test (h test)
+  verdict_over Yes h = λ test. forth (to (h Place)) test (h test)
   verdict_over (No n) h = (h.0, h.1, first_failing_over h.0 h.2)
 
 -- ---- the last event
@@ -138,18 +141,18 @@ module _ (book : PlainBook) (events : List Event) (stands : StandsFor book event
   abbrev before : List Event
   before = events_before events line
 
-  to_first : Book A1 → Over A1
+  to_first : Book Place → Over Place
   to_first h =
       let tick : last_event events ≡ Some (event.Tick time) = tick_of (last_event events) time (sym stands.tick ∙ h.1) in
       tick_there events line time (sym stands.lines ∙ h.0) tick
 
-  from_first : Over A1 → Book A1
+  from_first : Over Place → Book Place
   from_first h =
       let last = tick_is_last events line time short h in
       let tick : last_event events ≡ Some (event.Tick time) = ap last_event last.1 ∙ last_event-push before (event.Tick time) in
       (stands.lines ∙ last.0, stands.tick ∙ ap (option_and_then tick_minute) tick)
 
-  module _ (first : Over A1) where
+  module _ (first : Over Place) where
     split : events ≡ before ++ event.Tick time ∷ []
     split = (tick_is_last events line time short first).1
 
@@ -166,40 +169,40 @@ module _ (book : PlainBook) (events : List Event) (stands : StandsFor book event
     IsLevelOver rows = IsLevelOfEnds (scale_of version) rows (zero_rate_forward (scale_of version) pair) k0
 
     forth : (test : Test) → Book test → Over test
-    forth A1 h = first
-    forth A2 h = subst IsTrue declared_is h
-    forth A3 h = tt
-    forth A4 h = sym rate_is ∙ h
-    forth A5 h = tt
-    forth A6 h = tt
-    forth A7 h = subst (λ rows. IsClosestPair rows (stated_pair pair)) rows_are h
-    forth A8 h = tt
-    forth A9 h = subst IsLevelOver rows_are h
-    forth A10 h = tt
-    forth A11 h = tt
-    forth A12 h = tt
-    forth A13 h = tt
-    forth A14 h = tt
-    forth A15 h = tt
-    forth A16 h = tt
+    forth Place h = first
+    forth Terms h = subst IsTrue declared_is h
+    forth Minutes h = tt
+    forth Rate h = sym rate_is ∙ h
+    forth TaylorTerms h = tt
+    forth Exponential h = tt
+    forth ClosestPair h = subst (λ rows. IsClosestPair rows (stated_pair pair)) rows_are h
+    forth Forward h = tt
+    forth Level h = subst IsLevelOver rows_are h
+    forth Excess h = tt
+    forth Strip h = tt
+    forth Contributions h = tt
+    forth Total h = tt
+    forth Variance h = tt
+    forth Square h = tt
+    forth IndexEnds h = tt
 
     back : (test : Test) → Over test → Book test
-    back A1 h = from_first h
-    back A2 h = subst IsTrue (sym declared_is) h
-    back A3 h = tt
-    back A4 h = rate_is ∙ h
-    back A5 h = tt
-    back A6 h = tt
-    back A7 h = subst (λ rows. IsClosestPair rows (stated_pair pair)) (sym rows_are) h
-    back A8 h = tt
-    back A9 h = subst IsLevelOver (sym rows_are) h
-    back A10 h = tt
-    back A11 h = tt
-    back A12 h = tt
-    back A13 h = tt
-    back A14 h = tt
-    back A15 h = tt
-    back A16 h = tt
+    back Place h = from_first h
+    back Terms h = subst IsTrue (sym declared_is) h
+    back Minutes h = tt
+    back Rate h = rate_is ∙ h
+    back TaylorTerms h = tt
+    back Exponential h = tt
+    back ClosestPair h = subst (λ rows. IsClosestPair rows (stated_pair pair)) (sym rows_are) h
+    back Forward h = tt
+    back Level h = subst IsLevelOver (sym rows_are) h
+    back Excess h = tt
+    back Strip h = tt
+    back Contributions h = tt
+    back Total h = tt
+    back Variance h = tt
+    back Square h = tt
+    back IndexEnds h = tt
 
   pub answer_over : (verdict : Verdict) → IsVerdict Book verdict → IsVerdict Over verdict
   answer_over verdict h = verdict_over Book Over to_first from_first forth back verdict h

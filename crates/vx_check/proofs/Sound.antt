@@ -1,12 +1,12 @@
 -- A yes over the events means what the certificate says.
-use Rattle.std.proofs.Common.{◌≡◌, ℕ, List, subst}
+use Rattle.std.proofs.Common.{◌≡◌, ℕ, List, subst, arith}
 use Rattle.vx_clock.specs.declared.limits.TheConstants.{INDEX_DAYS, INDEX_WINDOW}
 use Rattle.vx_feed.specs.declared.events.Event.{Event}
 use Rattle.vx_feed.specs.Order.{AreLawful}
 use Rattle.vx_cert.specs.declared.certificate.CertBody.{CertBody}
 use Rattle.vx_cert.specs.declared.certificate.CertBody.TheVariants.{K0, Single, Index, Soq}
 use Rattle.vx_cert.specs.declared.certificate.Certificate.{Certificate}
-use Rattle.vx_claims.specs.TermTests.{Test}
+use Rattle.vx_claims.specs.declared.acceptance.Test.{Test}
 use Rattle.vx_claims.specs.Accepts.{Accepts, BodyMeets, IsVersion}
 use Rattle.vx_claims.specs.Means.{Means}
 use Rattle.vx_soundness.proofs.Meaning.{accepted_means}
@@ -25,4 +25,4 @@ pub yes_means : (events : List Event) (c : Certificate) (verdict : Verdict) → 
 yes_means events c verdict answer lawful version e =
     let met : IsAnswerOver events c Yes = subst (IsAnswerOver events c) e answer in
     let accepts : Accepts events c = record { version = version; meets_all = λ test. yes_meets events c.v c.line c.time c.body met test } in
-    accepted_means events c lawful accepts
+    accepted_means INDEX_DAYS INDEX_WINDOW events c (omega arith) lawful accepts

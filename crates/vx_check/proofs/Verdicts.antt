@@ -3,7 +3,9 @@ use Rattle.std.proofs.Common.{ℕ, ◌<◌, Bool, true, false, not, ◌==◌, po
 use Rattle.std.proofs.lemmas.Bool.Decides.{not_from_Decides, Decides-and, Decides-eqb}
 use Rattle.vx_clock.specs.declared.terms.Expiry.{Expiry}
 use Rattle.vx_cert.specs.declared.certificate.Pair.{Pair}
-use Rattle.vx_claims.specs.TermTests.{Test, A1, A2, A3, A4, A5, A6, A7, A8, A9, A10, A11, A12, A13, A14, A15, A16, test_number}
+use Rattle.vx_claims.specs.declared.acceptance.Test.{Test}
+use Rattle.vx_claims.specs.declared.acceptance.Test.TheVariants.{Place, Terms, Minutes, Rate, TaylorTerms, Exponential, ClosestPair, Forward, Level, Excess, Strip, Contributions, Total, Variance, Square, IndexEnds}
+use Rattle.vx_claims.specs.Test.{test_number}
 use Rattle.vx_claims.specs.Accepts.{scale_of}
 use Rattle.vx_check.specs.declared.book.PlainBook.{PlainBook}
 use Rattle.vx_check.specs.declared.check.Verdict.TheVariants.{Yes, No}
@@ -18,31 +20,31 @@ module _ (book : PlainBook) (version line time : ℕ) (x : Expiry) (pair : Pair)
   Meets test = LevelMeets book version line time x pair k0 test
 
   -- what holds of the five tests holds of all
-  each : (B : Test → Type 0) → (B A1 → Meets A1) → (B A2 → Meets A2) → (B A4 → Meets A4) → (B A7 → Meets A7) → (B A9 → Meets A9) → (test : Test) → B test → Meets test
-  each B a b c d e A1 h = a h
-  each B a b c d e A2 h = b h
-  each B a b c d e A3 h = tt
-  each B a b c d e A4 h = c h
-  each B a b c d e A5 h = tt
-  each B a b c d e A6 h = tt
-  each B a b c d e A7 h = d h
-  each B a b c d e A8 h = tt
-  each B a b c d e A9 h = e h
-  each B a b c d e A10 h = tt
-  each B a b c d e A11 h = tt
-  each B a b c d e A12 h = tt
-  each B a b c d e A13 h = tt
-  each B a b c d e A14 h = tt
-  each B a b c d e A15 h = tt
-  each B a b c d e A16 h = tt
+  each : (B : Test → Type 0) → (B Place → Meets Place) → (B Terms → Meets Terms) → (B Rate → Meets Rate) → (B ClosestPair → Meets ClosestPair) → (B Level → Meets Level) → (test : Test) → B test → Meets test
+  each B a b c d e Place h = a h
+  each B a b c d e Terms h = b h
+  each B a b c d e Minutes h = tt
+  each B a b c d e Rate h = c h
+  each B a b c d e TaylorTerms h = tt
+  each B a b c d e Exponential h = tt
+  each B a b c d e ClosestPair h = d h
+  each B a b c d e Forward h = tt
+  each B a b c d e Level h = e h
+  each B a b c d e Excess h = tt
+  each B a b c d e Strip h = tt
+  each B a b c d e Contributions h = tt
+  each B a b c d e Total h = tt
+  each B a b c d e Variance h = tt
+  each B a b c d e Square h = tt
+  each B a b c d e IndexEnds h = tt
 
   abbrev Below : ℕ → Test → Type 0
   Below n test = test_number test < n
 
-  verdict_of : (a b c d e : Bool) → Decides a (Meets A1) → Decides b (Meets A2) → Decides c (Meets A4) → Decides d (Meets A7) → Decides e (Meets A9)
+  verdict_of : (a b c d e : Bool) → Decides a (Meets Place) → Decides b (Meets Terms) → Decides c (Meets Rate) → Decides d (Meets ClosestPair) → Decides e (Meets Level)
       → IsVerdict Meets (if not a then No 1 else (if not b then No 2 else (if not c then No 4 else (if not d then No 7 else (if not e then No 9 else Yes)))))
   verdict_of false b c d e p q r s t = (
-    A1,
+    Place,
     refl,
     record {
       fails = not_from_Decides false p refl;
@@ -50,7 +52,7 @@ module _ (book : PlainBook) (version line time : ℕ) (x : Expiry) (pair : Pair)
     },
   )
   verdict_of true false c d e p q r s t = (
-    A2,
+    Terms,
     refl,
     record {
       fails = not_from_Decides false q refl;
@@ -58,7 +60,7 @@ module _ (book : PlainBook) (version line time : ℕ) (x : Expiry) (pair : Pair)
     },
   )
   verdict_of true true false d e p q r s t = (
-    A4,
+    Rate,
     refl,
     record {
       fails = not_from_Decides false r refl;
@@ -66,7 +68,7 @@ module _ (book : PlainBook) (version line time : ℕ) (x : Expiry) (pair : Pair)
     },
   )
   verdict_of true true true false e p q r s t = (
-    A7,
+    ClosestPair,
     refl,
     record {
       fails = not_from_Decides false s refl;
@@ -74,7 +76,7 @@ module _ (book : PlainBook) (version line time : ℕ) (x : Expiry) (pair : Pair)
     },
   )
   verdict_of true true true true false p q r s t = (
-    A9,
+    Level,
     refl,
     record {
       fails = not_from_Decides false t refl;
@@ -86,9 +88,9 @@ module _ (book : PlainBook) (version line time : ℕ) (x : Expiry) (pair : Pair)
 
   pub first_failing_is_verdict : IsVerdict Meets (tests.first_failing book line time x pair k0)
   first_failing_is_verdict =
-      let tick : Decides (tests.is_tick_at book line time) (Meets A1) =
+      let tick : Decides (tests.is_tick_at book line time) (Meets Place) =
       Decides-and (book.lines == line) (option_map_or (λ minute. minute == time) book.tick false) (Decides-eqb book.lines line) (some_nat book.tick time) in
-      let declared : Decides (is_kept x book) (Meets A2) = (λ e. e, λ h. h) in
+      let declared : Decides (is_kept x book) (Meets Terms) = (λ e. e, λ h. h) in
       verdict_of (tests.is_tick_at book line time) (is_kept x book) (tests.has_zero_rate book x) (tests.is_closest pair (kept_rows x book))
       (tests.is_level (tests.zero_rate_forward pair) k0 (kept_rows x book)) tick declared (some_int (kept_rate x book) (pos 0))
       (closest_decides pair (kept_rows x book)) (level_decides (scale_of version) (kept_rows x book) pair k0)

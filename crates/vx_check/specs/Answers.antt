@@ -6,7 +6,10 @@ use Rattle.vx_cert.specs.declared.certificate.CertBody.{CertBody}
 use Rattle.vx_cert.specs.declared.certificate.CertBody.TheVariants.{K0}
 use Rattle.vx_cert.specs.declared.certificate.Certificate.{Certificate}
 use Rattle.vx_formula.specs.Pair.{IsClosestPair}
-use Rattle.vx_claims.specs.TermTests.{Test, A1, A2, A4, A7, A9, test_number, stated_pair, IsLevelOfEnds}
+use Rattle.vx_claims.specs.declared.acceptance.Test.{Test}
+use Rattle.vx_claims.specs.declared.acceptance.Test.TheVariants.{Place, Terms, Rate, ClosestPair, Level}
+use Rattle.vx_claims.specs.Test.{test_number}
+use Rattle.vx_claims.specs.TermTests.{stated_pair, IsLevelOfEnds}
 use Rattle.vx_feed.specs.declared.events.Event.{Event}
 use Rattle.vx_claims.specs.Accepts.{scale_of, zero_rate_forward, FirstFailing, K0Meets}
 use Rattle.vx_check.specs.declared.book.PlainBook.{PlainBook}
@@ -16,11 +19,11 @@ use Rattle.vx_check.specs.Kept.{is_kept, kept_rate, kept_rows}
 
 -- a certificate of kind k0 meets a test over what the book keeps; it has no other tests than these
 abbrev pub LevelMeets : PlainBook → ℕ → ℕ → ℕ → Expiry → Pair → ℕ → Test → Type 0
-LevelMeets book version line time x pair k0 A1 = (book.lines ≡ line) × (book.tick ≡ Some time)
-LevelMeets book version line time x pair k0 A2 = IsTrue (is_kept x book)
-LevelMeets book version line time x pair k0 A4 = kept_rate x book ≡ Some (pos 0)
-LevelMeets book version line time x pair k0 A7 = IsClosestPair (kept_rows x book) (stated_pair pair)
-LevelMeets book version line time x pair k0 A9 =
+LevelMeets book version line time x pair k0 Place = (book.lines ≡ line) × (book.tick ≡ Some time)
+LevelMeets book version line time x pair k0 Terms = IsTrue (is_kept x book)
+LevelMeets book version line time x pair k0 Rate = kept_rate x book ≡ Some (pos 0)
+LevelMeets book version line time x pair k0 ClosestPair = IsClosestPair (kept_rows x book) (stated_pair pair)
+LevelMeets book version line time x pair k0 Level =
     IsLevelOfEnds (scale_of version) (kept_rows x book) (zero_rate_forward (scale_of version) pair) k0
 LevelMeets book version line time x pair k0 _ = Unit {0}
 

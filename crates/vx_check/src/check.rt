@@ -35,8 +35,10 @@ pub fn is_tested(c: &Certificate) -> bool
 /// it would get `No(1)`. A kind that is not tested yet gets `No(1)` and never a yes: ask `is_tested` first.
 pub fn check_cert(events: &PlainBook, c: &Certificate) -> Verdict
     ensures kept { IsAnswer events.now c.now result }
-    ensures answer { (pushed : List Event) → StandsFor events.now pushed → length pushed ≤ c.now.line → IsAnswerOver pushed c.now result }
-    ensures sound { (pushed : List Event) → StandsFor events.now pushed → length pushed ≤ c.now.line → AreLawful pushed → IsVersion c.now.v → result ≡ Yes → Means pushed c.now }
+    ensures answer { (pushed : List Event) → StandsFor events.now pushed → AreLawful pushed → length pushed ≤ c.now.line
+        → IsAnswerOver pushed c.now result }
+    ensures sound { (pushed : List Event) → StandsFor events.now pushed → AreLawful pushed → length pushed ≤ c.now.line
+        → IsVersion c.now.v → result ≡ Yes → Means pushed c.now }
 {
     match &c.body {
         CertBody::K0 { expiry, pair, k0 } => {

@@ -7,33 +7,35 @@ use Rattle.vx_cert.specs.declared.certificate.CertFigure.{CertFigure}
 use Rattle.vx_cert.specs.declared.certificate.Certificate.{Certificate}
 use Rattle.vx_formula.specs.declared.limits.TheConstants.{CENT, HALF_CENT}
 use Rattle.vx_formula.specs.Undecided.{Straddles}
-use Rattle.vx_claims.specs.TermTests.{Test, A1, A2, A3, A4, A5, A6, A7, A8, A9, A10, A11, A12, A13, A14, A15, A16, test_number}
+use Rattle.vx_claims.specs.declared.acceptance.Test.{Test}
+use Rattle.vx_claims.specs.declared.acceptance.Test.TheVariants.{Place, Terms, Minutes, Rate, TaylorTerms, Exponential, ClosestPair, Forward, Level, Excess, Strip, Contributions, Total, Variance, Square, IndexEnds}
+use Rattle.vx_claims.specs.Test.{test_number}
 use Rattle.vx_claims.specs.FigureTests.{EnclosesIndex}
 use Rattle.vx_claims.specs.Accepts.{Meets, Accepts, FirstFailing}
 
 abbrev test_at : ℕ → Test
 test_at n =
-    cond (eqb n 1) A1 (cond (eqb n 2) A2 (cond (eqb n 3) A3 (cond (eqb n 4) A4 (cond (eqb n 5) A5 (cond (eqb n 6) A6
-    (cond (eqb n 7) A7 (cond (eqb n 8) A8 (cond (eqb n 9) A9 (cond (eqb n 10) A10 (cond (eqb n 11) A11 (cond (eqb n 12) A12
-    (cond (eqb n 13) A13 (cond (eqb n 14) A14 (cond (eqb n 15) A15 A16))))))))))))))
+    cond (eqb n 1) Place (cond (eqb n 2) Terms (cond (eqb n 3) Minutes (cond (eqb n 4) Rate (cond (eqb n 5) TaylorTerms (cond (eqb n 6) Exponential
+    (cond (eqb n 7) ClosestPair (cond (eqb n 8) Forward (cond (eqb n 9) Level (cond (eqb n 10) Excess (cond (eqb n 11) Strip (cond (eqb n 12) Contributions
+    (cond (eqb n 13) Total (cond (eqb n 14) Variance (cond (eqb n 15) Square IndexEnds))))))))))))))
 
 test_at-number : (t : Test) → test_at (test_number t) ≡ t
-test_at-number A1 = refl
-test_at-number A2 = refl
-test_at-number A3 = refl
-test_at-number A4 = refl
-test_at-number A5 = refl
-test_at-number A6 = refl
-test_at-number A7 = refl
-test_at-number A8 = refl
-test_at-number A9 = refl
-test_at-number A10 = refl
-test_at-number A11 = refl
-test_at-number A12 = refl
-test_at-number A13 = refl
-test_at-number A14 = refl
-test_at-number A15 = refl
-test_at-number A16 = refl
+test_at-number Place = refl
+test_at-number Terms = refl
+test_at-number Minutes = refl
+test_at-number Rate = refl
+test_at-number TaylorTerms = refl
+test_at-number Exponential = refl
+test_at-number ClosestPair = refl
+test_at-number Forward = refl
+test_at-number Level = refl
+test_at-number Excess = refl
+test_at-number Strip = refl
+test_at-number Contributions = refl
+test_at-number Total = refl
+test_at-number Variance = refl
+test_at-number Square = refl
+test_at-number IndexEnds = refl
 
 same_number : (Holds : Test → Type 0) (s t : Test) → FirstFailing Holds s → FirstFailing Holds t → test_number s ≡ test_number t
 same_number Holds s t h l =

@@ -23,7 +23,8 @@ use Rattle.vx_formula.specs.Forward.{forward_at}
 use Rattle.vx_formula.specs.Level.{IsGreatestBelow}
 use Rattle.vx_formula.proofs.LevelLemmas.{exponent_proper}
 use Rattle.vx_claims.specs.Seen.{IsTickAt, events_before, moment_of}
-use Rattle.vx_claims.specs.TermTests.{A1, A4, A7, A9, stated_pair, IsLevelOfEnds}
+use Rattle.vx_claims.specs.declared.acceptance.Test.TheVariants.{Place, Rate, ClosestPair, Level}
+use Rattle.vx_claims.specs.TermTests.{stated_pair, IsLevelOfEnds}
 use Rattle.vx_claims.specs.Accepts.{scale_of, zero_rate_forward, BodyMeets, Accepts}
 use Rattle.vx_claims.specs.Means.{MeansLevel, BodyMeans, Means}
 
@@ -91,10 +92,10 @@ zero_exponent : (minutes : ℕ) → (exponent (pos 0) minutes).top ≡ pos 0
 zero_exponent minutes = omega (arith, ints)
 
 pub means_level : (events : List Event) (v line time : ℕ) (x : Expiry) (pair : CertPair) (k0 : ℕ) → AreLawful events
-    → BodyMeets INDEX_DAYS INDEX_WINDOW events v line time (K0 x pair k0) A1
-    → BodyMeets INDEX_DAYS INDEX_WINDOW events v line time (K0 x pair k0) A4
-    → BodyMeets INDEX_DAYS INDEX_WINDOW events v line time (K0 x pair k0) A7
-    → BodyMeets INDEX_DAYS INDEX_WINDOW events v line time (K0 x pair k0) A9
+    → BodyMeets INDEX_DAYS INDEX_WINDOW events v line time (K0 x pair k0) Place
+    → BodyMeets INDEX_DAYS INDEX_WINDOW events v line time (K0 x pair k0) Rate
+    → BodyMeets INDEX_DAYS INDEX_WINDOW events v line time (K0 x pair k0) ClosestPair
+    → BodyMeets INDEX_DAYS INDEX_WINDOW events v line time (K0 x pair k0) Level
     → MeansLevel events line time x pair k0
 means_level events v line time x pair k0 lawful a1 a4 a7 a9 =
     let found = trade_date_stands events line time lawful a1 in
@@ -121,9 +122,9 @@ means_level events v line time x pair k0 lawful a1 a4 a7 a9 =
 pub accepted_level_means : (events : List Event) (c : Certificate) (x : Expiry) (pair : CertPair) (k0 : ℕ) → AreLawful events → c.body ≡ K0 x pair k0 → Accepts events c → Means events c
 accepted_level_means events c x pair k0 lawful e h =
     let M : CertBody → Type 0 = λ body. BodyMeans INDEX_DAYS INDEX_WINDOW events c.line c.time body in
-    let B1 : CertBody → Type 0 = λ body. BodyMeets INDEX_DAYS INDEX_WINDOW events c.v c.line c.time body A1 in
-    let B4 : CertBody → Type 0 = λ body. BodyMeets INDEX_DAYS INDEX_WINDOW events c.v c.line c.time body A4 in
-    let B7 : CertBody → Type 0 = λ body. BodyMeets INDEX_DAYS INDEX_WINDOW events c.v c.line c.time body A7 in
-    let B9 : CertBody → Type 0 = λ body. BodyMeets INDEX_DAYS INDEX_WINDOW events c.v c.line c.time body A9 in
+    let B1 : CertBody → Type 0 = λ body. BodyMeets INDEX_DAYS INDEX_WINDOW events c.v c.line c.time body Place in
+    let B4 : CertBody → Type 0 = λ body. BodyMeets INDEX_DAYS INDEX_WINDOW events c.v c.line c.time body Rate in
+    let B7 : CertBody → Type 0 = λ body. BodyMeets INDEX_DAYS INDEX_WINDOW events c.v c.line c.time body ClosestPair in
+    let B9 : CertBody → Type 0 = λ body. BodyMeets INDEX_DAYS INDEX_WINDOW events c.v c.line c.time body Level in
     subst M (sym e) (means_level events c.v c.line c.time x pair k0 lawful
-    (subst B1 e (h.meets_all A1)) (subst B4 e (h.meets_all A4)) (subst B7 e (h.meets_all A7)) (subst B9 e (h.meets_all A9)))
+    (subst B1 e (h.meets_all Place)) (subst B4 e (h.meets_all Rate)) (subst B7 e (h.meets_all ClosestPair)) (subst B9 e (h.meets_all Level)))

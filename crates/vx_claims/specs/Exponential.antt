@@ -3,7 +3,7 @@ use Rattle.std.specs.Prelude.{ℕ, ◌+◌, ◌-◌, ◌*◌, ◌^◌, ◌<◌, 
 use Rattle.vx_cert.specs.declared.limits.TheConstants.{TAYLOR_TERMS}
 use Rattle.vx_cert.specs.declared.certificate.Ends.{Ends}
 
--- A5, of the lists t_lo and t_hi at an exponent whose absolute value is p/q: each term of the first is at most, and each of the
+-- Of the lists t_lo and t_hi at an exponent whose absolute value is p/q: each term of the first is at most, and each of the
 -- second at least, the term of the series times 2^P
 pub record AreTaylorTerms (P p q : ℕ) (low high : List ℕ) : Type 0 where
   pub first_low : slice_index low 0 ≤ 2 ^ P
@@ -19,7 +19,7 @@ low_sum terms = sum (take (TAYLOR_TERMS - 1) terms)
 abbrev pub high_sum : List ℕ → ℕ
 high_sum terms = sum (take (TAYLOR_TERMS - 1) terms) + 2 * slice_index terms (TAYLOR_TERMS - 1)
 
--- A6: the ends enclose the exponential, which at a negative rate is the reciprocal of the one at the opposite rate
+-- the ends enclose the exponential, which at a negative rate is the reciprocal of the one at the opposite rate
 pub record EncloseExponential (P : ℕ) (rate : ℤ) (low high : List ℕ) (e : Ends) : Type 0 where
   pub not_negative : pos 0 ≤ℤ e.lo
   pub in_order : e.lo ≤ℤ e.hi

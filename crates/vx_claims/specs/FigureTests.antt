@@ -10,7 +10,7 @@ use Rattle.vx_claims.specs.TermTests.{IsWithin}
 abbrev pub ForBothEnds : Ends → (ℤ → Type 0) → Type 0
 ForBothEnds ends P = P ends.lo × P ends.hi
 
--- A15 of two terms with n1 and n2 minutes, for a time ahead of `target` minutes: x encloses the weighted variances, at each end
+-- of two terms with n1 and n2 minutes, for a time ahead of `target` minutes: x encloses the weighted variances, at each end
 -- of both
 abbrev pub weighted : ℕ → ℕ → ℕ → ℤ → ℤ → ℤ
 weighted target n1 n2 y z = pos YEAR_MINUTES *ℤ ((pos n2 -ℤ pos target) *ℤ y +ℤ (pos target -ℤ pos n1) *ℤ z)
@@ -24,14 +24,14 @@ pub record EnclosesSquare (P target n1 n2 : ℕ) (w1 w2 x : Ends) : Type 0 where
   pub low : ForBothEnds w1 (λ y. ForBothEnds w2 (λ z. (x.lo *ℤ span target n1 n2) ≤ℤ weighted target n1 n2 y z))
   pub high : ForBothEnds w1 (λ y. ForBothEnds w2 (λ z. weighted target n1 n2 y z ≤ℤ (x.hi *ℤ span target n1 n2)))
 
--- A15 of one term at 30 days
+-- of one term at 30 days
 pub record EnclosesSingleSquare (P : ℕ) (w x : Ends) : Type 0 where
   pub low_range : IsWithin (SQUARE_MAX * 2 ^ P) x.lo
   pub high_range : IsWithin (SQUARE_MAX * 2 ^ P) x.hi
   pub low : ForBothEnds w (λ y. (x.lo *ℤ pos THIRTY_DAYS) ≤ℤ (pos YEAR_MINUTES *ℤ y))
   pub high : ForBothEnds w (λ y. (pos YEAR_MINUTES *ℤ y) ≤ℤ (x.hi *ℤ pos THIRTY_DAYS))
 
--- A16: the printed ends, in millionths of a point, enclose the index, lie close, and round to the cents
+-- the printed ends, in millionths of a point, enclose the index, lie close, and round to the cents
 pub record EnclosesIndex (P : ℕ) (figure : CertFigure) : Type 0 where
   pub not_negative : pos 0 ≤ℤ figure.lo
   pub in_order : figure.lo ≤ℤ figure.hi

@@ -11,7 +11,7 @@ use Rattle.vx_cert.specs.declared.certificate.CertBody.TheVariants.{K0}
 use Rattle.vx_cert.specs.declared.certificate.Certificate.{Certificate}
 use Rattle.vx_formula.specs.Level.{StrikesRise}
 use Rattle.vx_formula.specs.Undecided.{Straddles}
-use Rattle.vx_claims.specs.TermTests.{Test}
+use Rattle.vx_claims.specs.declared.acceptance.Test.{Test}
 use Rattle.vx_claims.specs.FigureTests.{EnclosesIndex}
 use Rattle.vx_claims.specs.Accepts.{Meets, Accepts, FirstFailing}
 use Rattle.vx_claims.specs.Means.{Means}

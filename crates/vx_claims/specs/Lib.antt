@@ -1,6 +1,7 @@
 -- What a feed shows, when a certificate is accepted, what that means, and which answers are lawful.
 pub mod Seen
 -- the tests
+pub mod Test
 pub mod Exponential
 pub mod TermTests
 pub mod FigureTests

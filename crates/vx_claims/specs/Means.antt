@@ -19,12 +19,13 @@ use Rattle.vx_formula.specs.Rounds.{Rounds}
 use Rattle.vx_formula.specs.Between.{Between}
 use Rattle.vx_formula.specs.Refusal.{TickFacts, IsTickBasis, TickReason, TickRefuses, IsOpeningBasis, OpeningReason, OpeningRefuses}
 use Rattle.vx_claims.specs.declared.limits.TheConstants.{SCALE}
-use Rattle.vx_claims.specs.Seen.{IsTickAt, IsOpeningAt, events_before, moment_of, term_facts, AreTickFacts, opening_facts}
+use Rattle.vx_claims.specs.Seen.{IsTickAt, IsOpeningAt, events_before, moment_of, term_facts, ArePickedTerms, AreTickFacts, opening_facts}
 use Rattle.vx_claims.specs.TermTests.{stated_pair}
 
--- the cents are the exact value rounded, and it lies between the two ends, which lie close
+-- the cents are the exact value rounded, and no others are; it lies between the two ends, which lie close
 pub record IsFigureOf (basis : Basis) (cents : ℕ) (lo hi : ℤ) : Type 0 where
   pub rounds : Rounds basis cents
+  pub no_other : (other : ℕ) → Rounds basis other → other ≡ cents
   pub between : Between basis lo hi
   pub narrow : hi ≤ℤ (lo +ℤ pos INDEX_WIDTH_MAX)
 
@@ -51,12 +52,15 @@ pub record MeansSingle (events : List Event) (line time : ℕ) (x : Expiry) (fig
   pub is_thirty_days : term.minutes ≡ THIRTY_DAYS
   pub is_figure : IsFigureOf (OneTerm term) figure.cents figure.lo figure.hi
 
--- kind index: the figure is that of the near and the next term, and nothing is refused
-pub record MeansIndex (days window : ℕ) (events : List Event) (line time : ℕ) (figure : CertFigure) : Type 0 where
+-- kind index: the two expiries are those of the near and the next term, the figure is that of these terms, and nothing is refused
+pub record MeansIndex (days window : ℕ) (events : List Event) (line time : ℕ) (near_expiry next_expiry : Expiry) (figure : CertFigure) : Type 0 where
+  pub picked : ArePickedTerms events line days window near_expiry next_expiry
   pub facts : TickFacts
   pub are_facts : AreTickFacts events line time days window facts
   pub near : Term
   pub next : Term
+  pub near_is_seen : IsTermSeen events line time near_expiry near
+  pub next_is_seen : IsTermSeen events line time next_expiry next
   pub is_basis : IsTickBasis facts near next
   pub is_figure : IsFigureOf (TwoTerms near next facts.target) figure.cents figure.lo figure.hi
   pub none_refuses : (reason : TickReason) → ¬ TickRefuses SCALE facts reason
@@ -72,7 +76,7 @@ pub record MeansOpening (events : List Event) (line time : ℕ) (figure : CertFi
 abbrev pub BodyMeans : ℕ → ℕ → List Event → ℕ → ℕ → CertBody → Type 0
 BodyMeans days window events line time (K0 x pair k0) = MeansLevel events line time x pair k0
 BodyMeans days window events line time (Single term figure) = MeansSingle events line time term.expiry figure
-BodyMeans days window events line time (Index stated_days near next figure) = MeansIndex days window events line time figure
+BodyMeans days window events line time (Index stated_days near next figure) = MeansIndex days window events line time near.expiry next.expiry figure
 BodyMeans days window events line time (Soq term figure) = MeansOpening events line time figure
 
 -- what the certificate asserts, where kind index is read for so many days within a window

@@ -41,6 +41,13 @@ moment_of day time = record { day = day; minute = time }
 abbrev pub term_facts : List Event → Moment → Expiry → TermFacts
 term_facts events now x = record { rows = listed_rows x events; rate = standing_rate x events; minutes = minutes_between now x }
 
+-- the two terms are the picked ones, for so many days within a window
+pub record ArePickedTerms (events : List Event) (line days window : ℕ) (near next : Expiry) : Type 0 where
+  pub day : DayNo
+  pub day_is : trade_date events ≡ Some day
+  pub is_near : IsNearTerm day days window (declared_expiries (events_before events line)) near
+  pub is_next : IsNextTerm day days window (declared_expiries (events_before events line)) next
+
 -- the facts are those of the near term for so many days within a window, or there is none
 abbrev pub AreNearFacts : List Event → Moment → ℕ → ℕ → Option TermFacts → Type 0
 AreNearFacts events now days window chosen = MatchOption chosen

@@ -12,6 +12,8 @@ use Rattle.vx_formula.specs.Term.{TermFacts}
 use Rattle.vx_formula.specs.Level.{IsListed}
 use Rattle.vx_formula.specs.Strip.{StripEntry, strip}
 use Rattle.vx_claims.specs.declared.limits.TheConstants.{FORWARD_BITS, EXCESS_MAX, VARIANCE_MAX}
+use Rattle.vx_claims.specs.declared.acceptance.Test.{Test}
+use Rattle.vx_claims.specs.declared.acceptance.Test.TheVariants.{Minutes, Rate, TaylorTerms, Exponential, ClosestPair, Forward, Level, Excess, Strip, Contributions, Total, Variance}
 use Rattle.vx_claims.specs.Exponential.{AreTaylorTerms, EncloseExponential}
 
 -- from -limit to limit
@@ -22,7 +24,7 @@ IsWithin limit z = (neg_ℤ (pos limit) ≤ℤ z) × (z ≤ℤ pos limit)
 abbrev pub stated_pair : CertPair → Pair
 stated_pair pair = record { strike = pair.strike; d = pair.d }
 
--- A8: K* * 2^P + 5 * D * y, for an end y of the exponential
+-- K* * 2^P + 5 * D * y, for an end y of the exponential
 abbrev pub forward_end : ℕ → CertPair → ℤ → ℤ
 forward_end P pair y = pos (pair.strike * 2 ^ P) +ℤ pos 5 *ℤ pair.d *ℤ y
 
@@ -34,7 +36,7 @@ pub record EnclosesForward (P : ℕ) (pair : CertPair) (e f : Ends) : Type 0 whe
   pub low_range : IsWithin (2 ^ (P + FORWARD_BITS)) f.lo
   pub high_range : IsWithin (2 ^ (P + FORWARD_BITS)) f.hi
 
--- A9: k0 is the level for every forward from one end to the other
+-- k0 is the level for every forward from one end to the other
 pub record IsLevelOfEnds (P : ℕ) (rows : List StrikeRow) (f : Ends) (k0 : ℕ) : Type 0 where
   pub is_listed : IsListed rows k0
   pub at_most : pos (k0 * 2 ^ P) ≤ℤ f.lo
@@ -44,7 +46,7 @@ pub record IsLevelOfEnds (P : ℕ) (rows : List StrikeRow) (f : Ends) (k0 : ℕ)
 abbrev pub HasStrikeAbove : List StrikeRow → ℕ → Type 0
 HasStrikeAbove rows k0 = (strike : ℕ) × IsListed rows strike × (k0 < strike) × (strike ≤ 2 * k0)
 
--- A10: g encloses F/K0 - 1
+-- g encloses F/K0 - 1
 pub record EnclosesExcess (P : ℕ) (f : Ends) (k0 : ℕ) (g : Ends) : Type 0 where
   pub not_negative : pos 0 ≤ℤ g.lo
   pub in_order : g.lo ≤ℤ g.hi
@@ -52,7 +54,7 @@ pub record EnclosesExcess (P : ℕ) (f : Ends) (k0 : ℕ) (g : Ends) : Type 0 wh
   pub low : (g.lo *ℤ pos k0) ≤ℤ (f.lo -ℤ pos (k0 * 2 ^ P))
   pub high : (f.hi -ℤ pos (k0 * 2 ^ P)) ≤ℤ (g.hi *ℤ pos k0)
 
--- A11: the stated rows are the strip at k0, both sides of k0 have a price, and a row is below k0 and one above
+-- the stated rows are the strip at k0, both sides of k0 have a price, and a row is below k0 and one above
 abbrev pub stated_entry : CertRow → StripEntry
 stated_entry row = record { strike = row.strike; d = row.d; q4 = row.q4 }
 
@@ -62,76 +64,39 @@ pub record IsStatedStrip (rows : List StrikeRow) (k0 : ℕ) (stated : List CertR
   pub has_put : Any (λ (row : CertRow). row.strike < k0) stated
   pub has_call : Any (λ (row : CertRow). k0 < row.strike) stated
 
--- A12: the ends of a row enclose what it adds
+-- the ends of a row enclose what it adds
 pub record EnclosesContribution (P : ℕ) (row : CertRow) : Type 0 where
   pub in_order : row.lo ≤ row.hi
   pub in_range : row.hi ≤ STRIP_TOTAL_MAX * 2 ^ P
   pub low : row.lo * (4 * (row.strike * row.strike)) ≤ 5 * (row.d * row.q4) * 2 ^ P
   pub high : 5 * (row.d * row.q4) * 2 ^ P ≤ row.hi * (4 * (row.strike * row.strike))
 
--- A13: s encloses the sum
+-- s encloses the sum
 pub record EnclosesTotal (P : ℕ) (rows : List CertRow) (s : Ends) : Type 0 where
   pub not_negative : pos 0 ≤ℤ s.lo
   pub low : s.lo ≤ℤ pos (sum_by (λ (row : CertRow). row.lo) rows)
   pub high : pos (sum_by (λ (row : CertRow). row.hi) rows) ≤ℤ s.hi
   pub in_range : s.hi ≤ℤ pos (STRIP_TOTAL_MAX * 2 ^ P)
 
--- A14: w encloses 2 * e * S - g^2
+-- w encloses 2 * e * S - g^2
 pub record EnclosesVariance (P : ℕ) (e g s w : Ends) : Type 0 where
   pub low : (w.lo *ℤ pos (2 ^ P)) ≤ℤ (pos 2 *ℤ (e.lo *ℤ s.lo) -ℤ g.hi *ℤ g.hi)
   pub high : (pos 2 *ℤ (e.hi *ℤ s.hi) -ℤ g.lo *ℤ g.lo) ≤ℤ (w.hi *ℤ pos (2 ^ P))
   pub low_range : IsWithin (VARIANCE_MAX * 2 ^ P) w.lo
   pub high_range : IsWithin (VARIANCE_MAX * 2 ^ P) w.hi
 
--- the tests of a certificate, by their names in its format
-pub data Test : Type 0 where
-  A1 : Test
-  A2 : Test
-  A3 : Test
-  A4 : Test
-  A5 : Test
-  A6 : Test
-  A7 : Test
-  A8 : Test
-  A9 : Test
-  A10 : Test
-  A11 : Test
-  A12 : Test
-  A13 : Test
-  A14 : Test
-  A15 : Test
-  A16 : Test
-
-abbrev pub test_number : Test → ℕ
-test_number A1 = 1
-test_number A2 = 2
-test_number A3 = 3
-test_number A4 = 4
-test_number A5 = 5
-test_number A6 = 6
-test_number A7 = 7
-test_number A8 = 8
-test_number A9 = 9
-test_number A10 = 10
-test_number A11 = 11
-test_number A12 = 12
-test_number A13 = 13
-test_number A14 = 14
-test_number A15 = 15
-test_number A16 = 16
-
--- a term meets a test; the tests A1, A2, A15 and A16 are not of one term
+-- a term meets a test; those of the place, the terms, the square and the printed ends are not of one term
 abbrev pub TermMeets : ℕ → TermFacts → CertTerm → Test → Type 0
-TermMeets P facts term A3 = term.minutes ≡ facts.minutes
-TermMeets P facts term A4 = facts.rate ≡ Some term.rate
-TermMeets P facts term A5 = AreTaylorTerms P (nat_abs term.rate * term.minutes) (YEAR_MINUTES * RATE_UNITS) term.t_lo term.t_hi
-TermMeets P facts term A6 = EncloseExponential P term.rate term.t_lo term.t_hi term.e
-TermMeets P facts term A7 = IsClosestPair facts.rows (stated_pair term.pair)
-TermMeets P facts term A8 = EnclosesForward P term.pair term.e term.f
-TermMeets P facts term A9 = IsLevelOfEnds P facts.rows term.f term.k0 × HasStrikeAbove facts.rows term.k0
-TermMeets P facts term A10 = EnclosesExcess P term.f term.k0 term.g
-TermMeets P facts term A11 = IsStatedStrip facts.rows term.k0 term.rows
-TermMeets P facts term A12 = All (EnclosesContribution P) term.rows
-TermMeets P facts term A13 = EnclosesTotal P term.rows term.s
-TermMeets P facts term A14 = EnclosesVariance P term.e term.g term.s term.w
+TermMeets P facts term Minutes = term.minutes ≡ facts.minutes
+TermMeets P facts term Rate = facts.rate ≡ Some term.rate
+TermMeets P facts term TaylorTerms = AreTaylorTerms P (nat_abs term.rate * term.minutes) (YEAR_MINUTES * RATE_UNITS) term.t_lo term.t_hi
+TermMeets P facts term Exponential = EncloseExponential P term.rate term.t_lo term.t_hi term.e
+TermMeets P facts term ClosestPair = IsClosestPair facts.rows (stated_pair term.pair)
+TermMeets P facts term Forward = EnclosesForward P term.pair term.e term.f
+TermMeets P facts term Level = IsLevelOfEnds P facts.rows term.f term.k0 × HasStrikeAbove facts.rows term.k0
+TermMeets P facts term Excess = EnclosesExcess P term.f term.k0 term.g
+TermMeets P facts term Strip = IsStatedStrip facts.rows term.k0 term.rows
+TermMeets P facts term Contributions = All (EnclosesContribution P) term.rows
+TermMeets P facts term Total = EnclosesTotal P term.rows term.s
+TermMeets P facts term Variance = EnclosesVariance P term.e term.g term.s term.w
 TermMeets P facts term _ = Unit {0}

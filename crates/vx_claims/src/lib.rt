@@ -5,9 +5,11 @@
 //! law about them.
 #![tactic(auto)]
 
+pub mod acceptance;
 mod laws;
 pub mod limits;
 
+pub use acceptance::Test;
 pub use laws::{
     accepted_has_no_failing_test, accepted_level_means, failing_test_is_one, listed_rows_rise,
     stated_ends_are_decided,

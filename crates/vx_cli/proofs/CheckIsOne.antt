@@ -10,7 +10,8 @@ use Rattle.vx_cert.specs.declared.certificate.Certificate.{Certificate}
 use Rattle.vx_cert.specs.declared.fault.CertFault.{CertFault}
 use Rattle.vx_cert.specs.declared.fault.CertFault.TheVariants.{NoMemory, Syntax, Field}
 use Rattle.vx_cert.specs.Reading.{ReadsAs, certificate_of}
-use Rattle.vx_claims.specs.TermTests.{Test, test_number}
+use Rattle.vx_claims.specs.declared.acceptance.Test.{Test}
+use Rattle.vx_claims.specs.Test.{test_number}
 use Rattle.vx_claims.specs.Accepts.{Accepts, Meets, FirstFailing}
 use Rattle.vx_claims.proofs.FailingLemmas.{failing_test_is_one, accepted_has_no_failing_test}
 use Rattle.vx_cli.specs.declared.answer.Answer.{Answer}

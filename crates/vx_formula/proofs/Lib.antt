@@ -4,6 +4,7 @@ pub mod PairLemmas
 pub mod LevelLemmas
 pub mod FigureLemmas
 pub mod SelectionLemmas
+pub mod Walks
 pub mod RefusalLemmas
 pub mod RangeLemmas
 pub mod ExampleProofs

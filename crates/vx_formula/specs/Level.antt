@@ -1,5 +1,5 @@
 -- The level K0. After the Cboe VIX white paper: the listed strike equal to the forward, or else the one immediately below it.
-use Rattle.std.specs.Prelude.{ℕ, ◌<◌, pos, List, map, Contains, AllPairs}
+use Rattle.std.specs.Prelude.{ℕ, ◌<◌, pos, List, map, slice_index, Contains, AllPairs}
 use Rattle.vx_num.specs.Fraction.{Fraction, whole, ◌≤ᶠ◌, ◌<ᶠ◌}
 use Rattle.vx_symbol.specs.declared.rows.StrikeRow.{StrikeRow}
 use Rattle.vx_formula.specs.Term.{Term, InBracket}
@@ -8,6 +8,10 @@ use Rattle.vx_formula.specs.Forward.{forward_at}
 -- the strikes of the rows, in thousandths of a point
 abbrev pub strikes : List StrikeRow → List ℕ
 strikes rows = map (λ row. row.strike) rows
+
+-- the strike of the row at a place
+abbrev pub strike_at : List StrikeRow → ℕ → ℕ
+strike_at rows place = slice_index (strikes rows) place
 
 -- each strike is below all later ones
 abbrev pub StrikesRise : List StrikeRow → Type 0

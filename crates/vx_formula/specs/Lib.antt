@@ -8,6 +8,7 @@ pub mod Forward
 pub mod Level
 pub mod Selection
 pub mod Strip
+pub mod Walk
 -- the variance, and the index
 pub mod Variance
 pub mod Index

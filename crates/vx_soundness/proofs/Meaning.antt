@@ -10,7 +10,7 @@ use Rattle.vx_clock.specs.declared.terms.Root.{Root}
 use Rattle.vx_clock.specs.declared.terms.Root.TheVariants.{Spx, Spxw}
 use Rattle.vx_clock.specs.declared.terms.Expiry.{Expiry}
 use Rattle.vx_clock.specs.declared.terms.Moment.{Moment}
-use Rattle.vx_clock.specs.declared.limits.TheConstants.{INDEX_DAYS, INDEX_WINDOW, DAY_MINUTES, MINUTES_MAX}
+use Rattle.vx_clock.specs.declared.limits.TheConstants.{DAY_MINUTES, DAYS_AHEAD_MAX, MINUTES_MAX}
 use Rattle.vx_clock.specs.Minutes.{days_until, settlement_minute, minutes_between}
 use Rattle.vx_clock.specs.Terms.{IsNearTerm, IsNextTerm}
 use Rattle.vx_symbol.specs.Rows.{IsRateInRange}
@@ -27,6 +27,7 @@ use Rattle.vx_cert.specs.declared.certificate.CertTerm.{CertTerm}
 use Rattle.vx_cert.specs.declared.certificate.CertFigure.{CertFigure}
 use Rattle.vx_cert.specs.declared.certificate.CertBody.{CertBody}
 use Rattle.vx_cert.specs.declared.certificate.CertBody.TheVariants.{K0, Single, Index, Soq}
+use Rattle.vx_formula.specs.declared.limits.TheConstants.{THIRTY_DAYS}
 use Rattle.vx_formula.specs.Term.{TermFacts, Term, IsTermOf, InBracket, HasSmallExponent}
 use Rattle.vx_formula.specs.Level.{StrikesRise, IsListed}
 use Rattle.vx_formula.specs.Variance.{variance_at}
@@ -34,12 +35,14 @@ use Rattle.vx_formula.specs.Index.{TwoTerms, OneTerm, index_square, single_squar
 use Rattle.vx_formula.specs.Rounds.{Rounds}
 use Rattle.vx_formula.specs.Between.{BetweenAt}
 use Rattle.vx_formula.specs.Refusal.{TermRefuses, TickReason, no_near_term, no_next_term, of_near, of_next, negative_variance, TickRefuses, OpeningFacts, OpeningReason, no_opening, no_term, of_term, negative_opening, OpeningRefuses}
-use Rattle.vx_formula.proofs.FigureLemmas.{figure_is_not_negative}
+use Rattle.vx_formula.proofs.FigureLemmas.{figure_is_one, figure_is_not_negative}
 use Rattle.vx_formula.proofs.RangeLemmas.{exponent_is_small}
 use Rattle.vx_formula.proofs.Lists.{In}
 use Rattle.vx_claims.specs.declared.limits.TheConstants.{SCALE}
 use Rattle.vx_claims.specs.Seen.{events_before, moment_of, term_facts, opening_expiry, opening_term_facts, opening_term_of, opening_facts}
-use Rattle.vx_claims.specs.TermTests.{Test, A1, A2, A3, A4, A5, A6, A7, A8, A9, A10, A11, A12, A13, A14, A15, A16, TermMeets}
+use Rattle.vx_claims.specs.declared.acceptance.Test.{Test}
+use Rattle.vx_claims.specs.declared.acceptance.Test.TheVariants.{Place, Terms, Minutes, Rate, TaylorTerms, Exponential, ClosestPair, Forward, Level, Excess, Strip, Contributions, Total, Variance, Square, IndexEnds}
+use Rattle.vx_claims.specs.TermTests.{TermMeets}
 use Rattle.vx_claims.specs.FigureTests.{EnclosesSquare, EnclosesSingleSquare, EnclosesIndex}
 use Rattle.vx_claims.specs.Accepts.{scale_of, IsVersion, TermMeetsAt, OpeningTermMeets, SingleMeets, SoqMeets, IndexMeets, BodyMeets}
 use Rattle.vx_claims.specs.Means.{IsFigureOf, MeansSingle, MeansIndex, MeansOpening, BodyMeans}
@@ -107,24 +110,26 @@ rate_in_range x events r range h = let found = said_in (rate_of x) events r h in
 -- ---- the figure of terms whose tests are met
 
 figure_of_one : (P : ℕ) (facts : TermFacts) (t : CertTerm) (figure : CertFigure) → ((test : Test) → TermMeets P facts t test) → 1 ≤ facts.minutes
-    → ((k : ℕ) → IsListed facts.rows k → 1 ≤ k) → EnclosesSingleSquare P t.w figure.x → EnclosesIndex P figure
+    → ((k : ℕ) → IsListed facts.rows k → 1 ≤ k) → HasSmallExponent (stated_term facts t) → EnclosesSingleSquare P t.w figure.x → EnclosesIndex P figure
     → IsFigureOf (OneTerm (stated_term facts t)) figure.cents figure.lo figure.hi
-figure_of_one P facts t figure meets some positive square tests =
+figure_of_one P facts t figure meets some positive small square tests =
     let term = stated_term facts t in
     let at = holds_at P facts t meets some positive in
     let x = λ (e : Fraction). single_square (variance_at term t.k0 e) in
     let between : (e : Fraction) → InBracket term 12 e → BetweenAt figure.lo figure.hi (x e) = λ e member.
     between_stated P figure (x e) tests (single_enclosed P t.w figure.x (variance_at term t.k0 e) square (at e member).enclosed) in
     let narrow = tests.narrow in
-    record {
-      rounds = record {
-        depth = 12;
-        level = t.k0;
-        holds = λ e member. record {
-          level = (at e member).level;
-          test = rounds_stated P figure (x e) (single_proper (variance_at term t.k0 e) (at e member).proper) tests (between e member);
-        };
+    let rounds : Rounds (OneTerm term) figure.cents = record {
+      depth = 12;
+      level = t.k0;
+      holds = λ e member. record {
+        level = (at e member).level;
+        test = rounds_stated P figure (x e) (single_proper (variance_at term t.k0 e) (at e member).proper) tests (between e member);
       };
+    } in
+    record {
+      rounds = rounds;
+      no_other = λ other rounds_too. figure_is_one (OneTerm term) other figure.cents small rounds_too rounds;
       between = record { depth = 12; level = t.k0; holds = λ e member. record { level = (at e member).level; test = between e member } };
       narrow = omega (arith, ints);
     }
@@ -141,39 +146,42 @@ at_day events v line time t test day stands h =
 
 single_meets : (events : List Event) (v line time : ℕ) (t : CertTerm) (figure : CertFigure) (day : DayNo) → trade_date events ≡ Some day
     → ((test : Test) → SingleMeets events v line time t figure test) → (test : Test) → TermMeets (scale_of v) (term_facts (events_before events line) (moment_of day time) t.expiry) t test
-single_meets events v line time t figure day stands all A1 = tt
-single_meets events v line time t figure day stands all A2 = tt
-single_meets events v line time t figure day stands all A3 = at_day events v line time t A3 day stands (all A3).0
-single_meets events v line time t figure day stands all A4 = at_day events v line time t A4 day stands (all A4).0
-single_meets events v line time t figure day stands all A5 = at_day events v line time t A5 day stands (all A5)
-single_meets events v line time t figure day stands all A6 = at_day events v line time t A6 day stands (all A6)
-single_meets events v line time t figure day stands all A7 = at_day events v line time t A7 day stands (all A7)
-single_meets events v line time t figure day stands all A8 = at_day events v line time t A8 day stands (all A8)
-single_meets events v line time t figure day stands all A9 = at_day events v line time t A9 day stands (all A9)
-single_meets events v line time t figure day stands all A10 = at_day events v line time t A10 day stands (all A10)
-single_meets events v line time t figure day stands all A11 = at_day events v line time t A11 day stands (all A11)
-single_meets events v line time t figure day stands all A12 = at_day events v line time t A12 day stands (all A12)
-single_meets events v line time t figure day stands all A13 = at_day events v line time t A13 day stands (all A13)
-single_meets events v line time t figure day stands all A14 = at_day events v line time t A14 day stands (all A14)
-single_meets events v line time t figure day stands all A15 = tt
-single_meets events v line time t figure day stands all A16 = tt
+single_meets events v line time t figure day stands all Place = tt
+single_meets events v line time t figure day stands all Terms = tt
+single_meets events v line time t figure day stands all Minutes = at_day events v line time t Minutes day stands (all Minutes).0
+single_meets events v line time t figure day stands all Rate = at_day events v line time t Rate day stands (all Rate).0
+single_meets events v line time t figure day stands all TaylorTerms = at_day events v line time t TaylorTerms day stands (all TaylorTerms)
+single_meets events v line time t figure day stands all Exponential = at_day events v line time t Exponential day stands (all Exponential)
+single_meets events v line time t figure day stands all ClosestPair = at_day events v line time t ClosestPair day stands (all ClosestPair)
+single_meets events v line time t figure day stands all Forward = at_day events v line time t Forward day stands (all Forward)
+single_meets events v line time t figure day stands all Level = at_day events v line time t Level day stands (all Level)
+single_meets events v line time t figure day stands all Excess = at_day events v line time t Excess day stands (all Excess)
+single_meets events v line time t figure day stands all Strip = at_day events v line time t Strip day stands (all Strip)
+single_meets events v line time t figure day stands all Contributions = at_day events v line time t Contributions day stands (all Contributions)
+single_meets events v line time t figure day stands all Total = at_day events v line time t Total day stands (all Total)
+single_meets events v line time t figure day stands all Variance = at_day events v line time t Variance day stands (all Variance)
+single_meets events v line time t figure day stands all Square = tt
+single_meets events v line time t figure day stands all IndexEnds = tt
 
 means_single : (events : List Event) (v line time : ℕ) (t : CertTerm) (figure : CertFigure) → AreLawful events
     → ((test : Test) → SingleMeets events v line time t figure test) → MeansSingle events line time t.expiry figure
 means_single events v line time t figure lawful all =
-    let found = trade_date_stands events line time lawful (all A1) in
+    let found = trade_date_stands events line time lawful (all Place) in
     let before = events_before events line in
     let now = moment_of found.0 time in
     let facts = term_facts before now t.expiry in
     let meets = single_meets events v line time t figure found.0 found.1 all in
     let some = minutes_some now t.expiry in
-    let positive = rows_positive (standing_price before) t.expiry before (take_in_range (line - 1) events (lawful_in_range events lawful)) in
+    let range = take_in_range (line - 1) events (lawful_in_range events lawful) in
+    let positive = rows_positive (standing_price before) t.expiry before range in
+    let minutes_are : facts.minutes ≡ THIRTY_DAYS = sym (meets Minutes) ∙ (all Minutes).1 in
+    let small = (exponent_is_small (stated_term facts t) (rate_in_range t.expiry before t.rate range (meets Rate)) (omega arith)).1 in
     record {
       term = stated_term facts t;
-      is_seen = record { is_tick = all A1; day = found.0; day_is = found.1; of_facts = term_of_facts (scale_of v) facts t meets some positive };
-      rate_is_zero = (all A4).1;
-      is_thirty_days = sym (meets A3) ∙ (all A3).1;
-      is_figure = figure_of_one (scale_of v) facts t figure meets some positive (all A15) (all A16);
+      is_seen = record { is_tick = all Place; day = found.0; day_is = found.1; of_facts = term_of_facts (scale_of v) facts t meets some positive };
+      rate_is_zero = (all Rate).1;
+      is_thirty_days = minutes_are;
+      is_figure = figure_of_one (scale_of v) facts t figure meets some positive small (all Square) (all IndexEnds);
     }
 
 -- ---- the scale of a version
@@ -191,72 +199,75 @@ version_scale v (inr e) = let F : ℕ → Type 0 = λ n. AtScale (scale_of n) in
 module _ (days window : ℕ) (events : List Event) (v line time stated : ℕ) (near next : CertTerm) (figure : CertFigure) (day : DayNo) (stands : trade_date events ≡ Some day)
     (all : (test : Test) → IndexMeets days window events v line time stated near next figure test) where
   near_meets : (test : Test) → TermMeets (scale_of v) (term_facts (events_before events line) (moment_of day time) near.expiry) near test
-  near_meets A1 = tt
-  near_meets A2 = tt
-  near_meets A3 = at_day events v line time near A3 day stands (all A3).0
-  near_meets A4 = at_day events v line time near A4 day stands (all A4).0
-  near_meets A5 = at_day events v line time near A5 day stands (all A5).0
-  near_meets A6 = at_day events v line time near A6 day stands (all A6).0
-  near_meets A7 = at_day events v line time near A7 day stands (all A7).0
-  near_meets A8 = at_day events v line time near A8 day stands (all A8).0
-  near_meets A9 = at_day events v line time near A9 day stands (all A9).0
-  near_meets A10 = at_day events v line time near A10 day stands (all A10).0
-  near_meets A11 = at_day events v line time near A11 day stands (all A11).0
-  near_meets A12 = at_day events v line time near A12 day stands (all A12).0
-  near_meets A13 = at_day events v line time near A13 day stands (all A13).0
-  near_meets A14 = at_day events v line time near A14 day stands (all A14).0
-  near_meets A15 = tt
-  near_meets A16 = tt
+  near_meets Place = tt
+  near_meets Terms = tt
+  near_meets Minutes = at_day events v line time near Minutes day stands (all Minutes).0
+  near_meets Rate = at_day events v line time near Rate day stands (all Rate).0
+  near_meets TaylorTerms = at_day events v line time near TaylorTerms day stands (all TaylorTerms).0
+  near_meets Exponential = at_day events v line time near Exponential day stands (all Exponential).0
+  near_meets ClosestPair = at_day events v line time near ClosestPair day stands (all ClosestPair).0
+  near_meets Forward = at_day events v line time near Forward day stands (all Forward).0
+  near_meets Level = at_day events v line time near Level day stands (all Level).0
+  near_meets Excess = at_day events v line time near Excess day stands (all Excess).0
+  near_meets Strip = at_day events v line time near Strip day stands (all Strip).0
+  near_meets Contributions = at_day events v line time near Contributions day stands (all Contributions).0
+  near_meets Total = at_day events v line time near Total day stands (all Total).0
+  near_meets Variance = at_day events v line time near Variance day stands (all Variance).0
+  near_meets Square = tt
+  near_meets IndexEnds = tt
 
   next_meets : (test : Test) → TermMeets (scale_of v) (term_facts (events_before events line) (moment_of day time) next.expiry) next test
-  next_meets A1 = tt
-  next_meets A2 = tt
-  next_meets A3 = at_day events v line time next A3 day stands (all A3).1
-  next_meets A4 = at_day events v line time next A4 day stands (all A4).1
-  next_meets A5 = at_day events v line time next A5 day stands (all A5).1
-  next_meets A6 = at_day events v line time next A6 day stands (all A6).1
-  next_meets A7 = at_day events v line time next A7 day stands (all A7).1
-  next_meets A8 = at_day events v line time next A8 day stands (all A8).1
-  next_meets A9 = at_day events v line time next A9 day stands (all A9).1
-  next_meets A10 = at_day events v line time next A10 day stands (all A10).1
-  next_meets A11 = at_day events v line time next A11 day stands (all A11).1
-  next_meets A12 = at_day events v line time next A12 day stands (all A12).1
-  next_meets A13 = at_day events v line time next A13 day stands (all A13).1
-  next_meets A14 = at_day events v line time next A14 day stands (all A14).1
-  next_meets A15 = tt
-  next_meets A16 = tt
+  next_meets Place = tt
+  next_meets Terms = tt
+  next_meets Minutes = at_day events v line time next Minutes day stands (all Minutes).1
+  next_meets Rate = at_day events v line time next Rate day stands (all Rate).1
+  next_meets TaylorTerms = at_day events v line time next TaylorTerms day stands (all TaylorTerms).1
+  next_meets Exponential = at_day events v line time next Exponential day stands (all Exponential).1
+  next_meets ClosestPair = at_day events v line time next ClosestPair day stands (all ClosestPair).1
+  next_meets Forward = at_day events v line time next Forward day stands (all Forward).1
+  next_meets Level = at_day events v line time next Level day stands (all Level).1
+  next_meets Excess = at_day events v line time next Excess day stands (all Excess).1
+  next_meets Strip = at_day events v line time next Strip day stands (all Strip).1
+  next_meets Contributions = at_day events v line time next Contributions day stands (all Contributions).1
+  next_meets Total = at_day events v line time next Total day stands (all Total).1
+  next_meets Variance = at_day events v line time next Variance day stands (all Variance).1
+  next_meets Square = tt
+  next_meets IndexEnds = tt
 
 figure_of_two : (P target : ℕ) (f g : TermFacts) (near next : CertTerm) (figure : CertFigure)
     → ((test : Test) → TermMeets P f near test) → ((test : Test) → TermMeets P g next test) → 1 ≤ f.minutes → 1 ≤ g.minutes
     → ((k : ℕ) → IsListed f.rows k → 1 ≤ k) → ((k : ℕ) → IsListed g.rows k → 1 ≤ k) → 1 ≤ target → f.minutes < g.minutes
+    → HasSmallExponent (stated_term f near) → HasSmallExponent (stated_term g next)
     → EnclosesSquare P target near.minutes next.minutes near.w next.w figure.x → EnclosesIndex P figure
     → IsFigureOf (TwoTerms (stated_term f near) (stated_term g next) target) figure.cents figure.lo figure.hi
-figure_of_two P target f g near next figure near_tests next_tests near_some next_some near_positive next_positive ahead later square tests =
+figure_of_two P target f g near next figure near_tests next_tests near_some next_some near_positive next_positive ahead later near_small next_small square tests =
     let a = stated_term f near in
     let b = stated_term g next in
     let at_near = holds_at P f near near_tests near_some near_positive in
     let at_next = holds_at P g next next_tests next_some next_positive in
     let F : ℕ → Type 0 = λ m. EnclosesSquare P target m next.minutes near.w next.w figure.x in
     let G : ℕ → Type 0 = λ m. EnclosesSquare P target f.minutes m near.w next.w figure.x in
-    let square' = subst G (next_tests A3) (subst F (near_tests A3) square) in
+    let square' = subst G (next_tests Minutes) (subst F (near_tests Minutes) square) in
     let x = λ (e1 e2 : Fraction). index_square target (variance_at a near.k0 e1) f.minutes (variance_at b next.k0 e2) g.minutes in
     let between : (e1 e2 : Fraction) → InBracket a 12 e1 → InBracket b 12 e2 → BetweenAt figure.lo figure.hi (x e1 e2) = λ e1 e2 m1 m2.
     between_stated P figure (x e1 e2) tests
     (square_enclosed P target f.minutes g.minutes ahead later near.w next.w figure.x (variance_at a near.k0 e1) (variance_at b next.k0 e2) square' (at_near e1 m1).enclosed (at_next e2 m2).enclosed) in
     let narrow = tests.narrow in
-    record {
-      rounds = record {
-        depth = 12;
-        near_level = near.k0;
-        next_level = next.k0;
-        holds = λ e1 e2 m1 m2. record {
-          near_level = (at_near e1 m1).level;
-          next_level = (at_next e2 m2).level;
-          test = rounds_stated P figure (x e1 e2)
-              (square_proper P target f.minutes g.minutes ahead later (variance_at a near.k0 e1) (variance_at b next.k0 e2) (at_near e1 m1).proper (at_next e2 m2).proper)
-              tests (between e1 e2 m1 m2);
-        };
+    let rounds : Rounds (TwoTerms a b target) figure.cents = record {
+      depth = 12;
+      near_level = near.k0;
+      next_level = next.k0;
+      holds = λ e1 e2 m1 m2. record {
+        near_level = (at_near e1 m1).level;
+        next_level = (at_next e2 m2).level;
+        test = rounds_stated P figure (x e1 e2)
+            (square_proper P target f.minutes g.minutes ahead later (variance_at a near.k0 e1) (variance_at b next.k0 e2) (at_near e1 m1).proper (at_next e2 m2).proper)
+            tests (between e1 e2 m1 m2);
       };
+    } in
+    record {
+      rounds = rounds;
+      no_other = λ other rounds_too. figure_is_one (TwoTerms a b target) other figure.cents (near_small, next_small) rounds_too rounds;
       between = record {
         depth = 12;
         near_level = near.k0;
@@ -301,11 +312,11 @@ module _ (P j target : ℕ) (scale : 2 ^ SCALE ≡ 2 ^ P * j) (f g : TermFacts) 
       figure_is_not_negative (TwoTerms (stated_term f near) (stated_term g next) target) cents (near_small, next_small) rounds (subst I next_term (subst H near_term h.negative))
 
 means_index : (days window : ℕ) (events : List Event) (v line time stated : ℕ) (near next : CertTerm) (figure : CertFigure) → days + window ≤ 181 → AreLawful events → IsVersion v
-    → ((test : Test) → IndexMeets days window events v line time stated near next figure test) → MeansIndex days window events line time figure
+    → ((test : Test) → IndexMeets days window events v line time stated near next figure test) → MeansIndex days window events line time near.expiry next.expiry figure
 means_index days window events v line time stated near next figure fits lawful version all =
-    let found = trade_date_stands events line time lawful (all A1).0 in
+    let found = trade_date_stands events line time lawful (all Place).0 in
     let day = found.0 in
-    let picked = all A2 in
+    let picked = all Terms in
     let picked_day = picked.day_is in
     let stands = found.1 in
     let same_day : picked.day ≡ day = cc in
@@ -339,14 +350,15 @@ means_index days window events v line time stated near next figure fits lawful v
     let later : f.minutes < g.minutes = minutes_apart time (settlement_minute near.expiry.root) (settlement_minute next.expiry.root) d1 d2 days first last after early late in
     let near_most : f.minutes ≤ MINUTES_MAX = minutes_at_most time (settlement_minute near.expiry.root) d1 days first last (omega arith) early in
     let next_most : g.minutes ≤ MINUTES_MAX = minutes_at_most time (settlement_minute next.expiry.root) d2 (days + window) (omega (arith, ints)) until fits (settlement_at_most next.expiry.root) in
-    let near_small = (exponent_is_small (stated_term f near) (rate_in_range near.expiry before near.rate range (near_tests A4)) near_most).1 in
-    let next_small = (exponent_is_small (stated_term g next) (rate_in_range next.expiry before next.rate range (next_tests A4)) next_most).1 in
-    let figure_is = figure_of_two P target f g near next figure near_tests next_tests near_some next_some near_positive next_positive ahead later (all A15) (all A16) in
+    let near_small = (exponent_is_small (stated_term f near) (rate_in_range near.expiry before near.rate range (near_tests Rate)) near_most).1 in
+    let next_small = (exponent_is_small (stated_term g next) (rate_in_range next.expiry before next.rate range (next_tests Rate)) next_most).1 in
+    let figure_is = figure_of_two P target f g near next figure near_tests next_tests near_some next_some near_positive next_positive ahead later near_small next_small (all Square) (all IndexEnds) in
     let at = version_scale v version in
     record {
+      picked = picked;
       facts = record { near = Some f; next = Some g; target = target };
       are_facts = record {
-        is_tick = (all A1).0;
+        is_tick = (all Place).0;
         day = day;
         day_is = stands;
         near_facts = (near.expiry, is_near, refl);
@@ -355,6 +367,8 @@ means_index days window events v line time stated near next figure fits lawful v
       };
       near = stated_term f near;
       next = stated_term g next;
+      near_is_seen = record { is_tick = (all Place).0; day = day; day_is = stands; of_facts = term_of_facts P f near near_tests near_some near_positive };
+      next_is_seen = record { is_tick = (all Place).0; day = day; day_is = stands; of_facts = term_of_facts P g next next_tests next_some next_positive };
       is_basis = record {
         near_facts = f;
         near_is = refl;
@@ -383,22 +397,22 @@ opening_day events v t test day stands h =
 
 opening_meets : (events : List Event) (v line time : ℕ) (t : CertTerm) (figure : CertFigure) (day : DayNo) → trade_date events ≡ Some day
     → ((test : Test) → SoqMeets events v line time t figure test) → (test : Test) → TermMeets (scale_of v) (opening_term_facts events day) t test
-opening_meets events v line time t figure day stands all A1 = tt
-opening_meets events v line time t figure day stands all A2 = tt
-opening_meets events v line time t figure day stands all A3 = opening_day events v t A3 day stands (all A3)
-opening_meets events v line time t figure day stands all A4 = opening_day events v t A4 day stands (all A4)
-opening_meets events v line time t figure day stands all A5 = opening_day events v t A5 day stands (all A5)
-opening_meets events v line time t figure day stands all A6 = opening_day events v t A6 day stands (all A6)
-opening_meets events v line time t figure day stands all A7 = opening_day events v t A7 day stands (all A7)
-opening_meets events v line time t figure day stands all A8 = opening_day events v t A8 day stands (all A8)
-opening_meets events v line time t figure day stands all A9 = opening_day events v t A9 day stands (all A9)
-opening_meets events v line time t figure day stands all A10 = opening_day events v t A10 day stands (all A10)
-opening_meets events v line time t figure day stands all A11 = opening_day events v t A11 day stands (all A11)
-opening_meets events v line time t figure day stands all A12 = opening_day events v t A12 day stands (all A12)
-opening_meets events v line time t figure day stands all A13 = opening_day events v t A13 day stands (all A13)
-opening_meets events v line time t figure day stands all A14 = opening_day events v t A14 day stands (all A14)
-opening_meets events v line time t figure day stands all A15 = tt
-opening_meets events v line time t figure day stands all A16 = tt
+opening_meets events v line time t figure day stands all Place = tt
+opening_meets events v line time t figure day stands all Terms = tt
+opening_meets events v line time t figure day stands all Minutes = opening_day events v t Minutes day stands (all Minutes)
+opening_meets events v line time t figure day stands all Rate = opening_day events v t Rate day stands (all Rate)
+opening_meets events v line time t figure day stands all TaylorTerms = opening_day events v t TaylorTerms day stands (all TaylorTerms)
+opening_meets events v line time t figure day stands all Exponential = opening_day events v t Exponential day stands (all Exponential)
+opening_meets events v line time t figure day stands all ClosestPair = opening_day events v t ClosestPair day stands (all ClosestPair)
+opening_meets events v line time t figure day stands all Forward = opening_day events v t Forward day stands (all Forward)
+opening_meets events v line time t figure day stands all Level = opening_day events v t Level day stands (all Level)
+opening_meets events v line time t figure day stands all Excess = opening_day events v t Excess day stands (all Excess)
+opening_meets events v line time t figure day stands all Strip = opening_day events v t Strip day stands (all Strip)
+opening_meets events v line time t figure day stands all Contributions = opening_day events v t Contributions day stands (all Contributions)
+opening_meets events v line time t figure day stands all Total = opening_day events v t Total day stands (all Total)
+opening_meets events v line time t figure day stands all Variance = opening_day events v t Variance day stands (all Variance)
+opening_meets events v line time t figure day stands all Square = tt
+opening_meets events v line time t figure day stands all IndexEnds = tt
 
 some_or : {A : Type 0} (a b : Option A) → is_some b ≡ true → is_some (option_or a b) ≡ true
 some_or (Some x) b h = refl
@@ -436,7 +450,7 @@ module _ (P j : ℕ) (scale : 2 ^ SCALE ≡ 2 ^ P * j) (facts : TermFacts) (t : 
 means_opening : (events : List Event) (v line time : ℕ) (t : CertTerm) (figure : CertFigure) → AreLawful events → IsVersion v
     → ((test : Test) → SoqMeets events v line time t figure test) → MeansOpening events line time figure
 means_opening events v line time t figure lawful version all =
-    let expiry = all A2 in
+    let expiry = all Terms in
     let day = expiry.day in
     let x = opening_expiry day in
     let before = before_opening events in
@@ -446,16 +460,16 @@ means_opening events v line time t figure lawful version all =
     let some : 1 ≤ facts.minutes = omega arith in
     let range = opening_in_range events (lawful_in_range events lawful) in
     let positive = rows_positive (opening_price events) x before range in
-    let small = (exponent_is_small (stated_term facts t) (rate_in_range x before t.rate range (tests A4)) (omega arith)).1 in
-    let figure_is = figure_of_one P facts t figure tests some positive (all A15) (all A16) in
+    let small = (exponent_is_small (stated_term facts t) (rate_in_range x before t.rate range (tests Rate)) (omega arith)).1 in
+    let figure_is = figure_of_one P facts t figure tests some positive small (all Square) (all IndexEnds) in
     let at = version_scale v version in
     let F : Expiry → Type 0 = λ y. is_declared y before ≡ true in
     let declared : is_declared x before ≡ true = subst F expiry.expiry_is expiry.declared in
     let term_is : (opening_facts events).term ≡ Some facts =
     ap (option_and_then (opening_term_of events)) expiry.day_is ∙ cond-true (is_declared x before) (Some facts) None declared in
-    let taken : (opening_facts events).is_taken ≡ true = opening_was_taken events (line - 1) time (all A1).1 in
+    let taken : (opening_facts events).is_taken ≡ true = opening_was_taken events (line - 1) time (all Place).1 in
     record {
-      is_opening = all A1;
+      is_opening = all Place;
       term = stated_term facts t;
       is_basis = record { term_facts = facts; term_is = term_is; term_of = term_of_facts P facts t tests some positive };
       is_figure = figure_is;
@@ -465,12 +479,14 @@ means_opening events v line time t figure lawful version all =
 
 -- ---- every kind
 
-body_means : (events : List Event) (v line time : ℕ) (body : CertBody) → AreLawful events → IsVersion v
-    → ((test : Test) → BodyMeets INDEX_DAYS INDEX_WINDOW events v line time body test) → BodyMeans INDEX_DAYS INDEX_WINDOW events line time body
-body_means events v line time (K0 x pair k0) lawful version all = means_level events v line time x pair k0 lawful (all A1) (all A4) (all A7) (all A9)
-body_means events v line time (Single t figure) lawful version all = means_single events v line time t figure lawful all
-body_means events v line time (Index stated near next figure) lawful version all = means_index INDEX_DAYS INDEX_WINDOW events v line time stated near next figure (omega arith) lawful version all
-body_means events v line time (Soq t figure) lawful version all = means_opening events v line time t figure lawful version all
+body_means : (days window : ℕ) (events : List Event) (v line time : ℕ) (body : CertBody) → days + window ≤ DAYS_AHEAD_MAX → AreLawful events → IsVersion v
+    → ((test : Test) → BodyMeets days window events v line time body test) → BodyMeans days window events line time body
+body_means days window events v line time (K0 x pair k0) fits lawful version all =
+    means_level events v line time x pair k0 lawful (all Place) (all Rate) (all ClosestPair) (all Level)
+body_means days window events v line time (Single t figure) fits lawful version all = means_single events v line time t figure lawful all
+body_means days window events v line time (Index stated near next figure) fits lawful version all =
+    means_index days window events v line time stated near next figure fits lawful version all
+body_means days window events v line time (Soq t figure) fits lawful version all = means_opening events v line time t figure lawful version all
 
 pub accepted_means : AcceptedMeans
-accepted_means events c lawful h = body_means events c.v c.line c.time c.body lawful h.version h.meets_all
+accepted_means days window events c fits lawful h = body_means days window events c.v c.line c.time c.body fits lawful h.version h.meets_all

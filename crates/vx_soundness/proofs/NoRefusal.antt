@@ -19,7 +19,9 @@ use Rattle.vx_formula.proofs.PairLemmas.{row_is_one, closest_pair_is_one}
 use Rattle.vx_formula.proofs.LevelLemmas.{level_is_one, level_is_not_below_all}
 use Rattle.vx_formula.proofs.RangeLemmas.{upper_end_is_ceiling}
 use Rattle.vx_claims.specs.declared.limits.TheConstants.{SCALE}
-use Rattle.vx_claims.specs.TermTests.{A4, A7, A9, A11, A12, A13, Test, TermMeets, stated_pair, stated_entry, EnclosesContribution}
+use Rattle.vx_claims.specs.declared.acceptance.Test.{Test}
+use Rattle.vx_claims.specs.declared.acceptance.Test.TheVariants.{Rate, ClosestPair, Level, Strip, Contributions, Total}
+use Rattle.vx_claims.specs.TermTests.{TermMeets, stated_pair, stated_entry, EnclosesContribution}
 use Rattle.vx_soundness.proofs.RowLemmas.{entry_is_selected}
 use Rattle.vx_soundness.proofs.TermAt.{stated_term, stated_row_positive, stated_level}
 
@@ -72,10 +74,10 @@ module _ (P j : ℕ) (scale : 2 ^ SCALE ≡ 2 ^ P * j) (facts : TermFacts) (t : 
   same_term term h =
       let rows = h.rows_are in
       let stands = h.rate_stands in
-      let stated = meets A4 in
+      let stated = meets Rate in
       let rate : term.rate ≡ t.rate = cc in
       let F : List StrikeRow → Type 0 = λ r. IsClosestPair r term.pair in
-      let pair : term.pair ≡ stated_pair t.pair = closest_pair_is_one facts.rows term.pair (stated_pair t.pair) rise (subst F rows h.pair_is_closest) (meets A7) in
+      let pair : term.pair ≡ stated_pair t.pair = closest_pair_is_one facts.rows term.pair (stated_pair t.pair) rise (subst F rows h.pair_is_closest) (meets ClosestPair) in
       ap (λ r. make_term r term.rate term.minutes term.pair) rows
       ∙ ap (λ a. make_term facts.rows a term.minutes term.pair) rate
       ∙ ap (λ m. make_term facts.rows t.rate m term.pair) h.minutes_are
@@ -91,25 +93,25 @@ module _ (P j : ℕ) (scale : 2 ^ SCALE ≡ 2 ^ P * j) (facts : TermFacts) (t : 
       subst (Q facts.rows) level (subst G same h.holds)
 
   in_strip : (row : CertRow) → In t.rows row → In (strip facts.rows t.k0) (stated_entry row)
-  in_strip row h = let F : List StripEntry → Type 0 = λ entries. In entries (stated_entry row) in subst F (meets A11).is_strip (map_in stated_entry t.rows row h)
+  in_strip row h = let F : List StripEntry → Type 0 = λ entries. In entries (stated_entry row) in subst F (meets Strip).is_strip (map_in stated_entry t.rows row h)
 
   pub not_refused : (reason : TermReason) → ¬ TermRefuses SCALE facts reason
-  not_refused no_rate h = let stated = meets A4 in absurd cc
+  not_refused no_rate h = let stated = meets Rate in absurd cc
   not_refused no_pair h =
       let F : List Pair → Type 0 = λ ps. In ps (stated_pair t.pair) in
-      let none = subst F h (in_from_contains (live_pairs facts.rows) (stated_pair t.pair) (meets A7).among) in
+      let none = subst F h (in_from_contains (live_pairs facts.rows) (stated_pair t.pair) (meets ClosestPair).among) in
       elim none [ ]
   not_refused no_strike_below h =
       let F : Term → Type 0 = λ term. IsBelowAll term in
       level_is_not_below_all (stated_term facts t) t.k0 small (stated_level P facts t meets some positive) (subst F (same_term h.term h.is_of_facts) h.below_all)
   not_refused no_strike_above h =
-      let found = (meets A9).1 in
+      let found = (meets Level).1 in
       let above : 2 * t.k0 < found.0 = at_stated HasNoneAbove h found.0 found.1 found.2 in
       let at_most = found.3 in
       omega arith
   not_refused no_money h =
       let lacks = at_stated LacksMoney h in
-      let has = (meets A11).has_money in
+      let has = (meets Strip).has_money in
       let same : lacks.row ≡ has.1 = row_is_one facts.rows lacks.row has.1 rise (in_from_contains facts.rows lacks.row lacks.listed)
       (in_from_contains facts.rows has.1 (has.0, has.2, has.3)) (lacks.at_level ∙ sym (has.4).0) in
       let no = lacks.lacks in
@@ -117,14 +119,14 @@ module _ (P j : ℕ) (scale : 2 ^ SCALE ≡ 2 ^ P * j) (facts : TermFacts) (t : 
       let both = ap (λ (r : StrikeRow). r.put.there && r.call.there) same in
       absurd cc
   not_refused no_put h =
-      let has = (meets A11).has_put in
+      let has = (meets Strip).has_put in
       let found = entry_is_selected facts.rows t.k0 (stated_entry has.1) (in_strip has.1 (in_from_contains t.rows has.1 (has.0, has.2, has.3))) in
       let at_least = all_in (λ row. t.k0 ≤ row.strike) (selected_rows facts.rows t.k0) found.0 (at_stated HasNoPut h) found.1 in
       let below = has.4 in
       let same = found.2 in
       omega arith
   not_refused no_call h =
-      let has = (meets A11).has_call in
+      let has = (meets Strip).has_call in
       let found = entry_is_selected facts.rows t.k0 (stated_entry has.1) (in_strip has.1 (in_from_contains t.rows has.1 (has.0, has.2, has.3))) in
       let at_most = all_in (λ row. row.strike ≤ t.k0) (selected_rows facts.rows t.k0) found.0 (at_stated HasNoCall h) found.1 in
       let above = has.4 in
@@ -132,11 +134,11 @@ module _ (P j : ℕ) (scale : 2 ^ SCALE ≡ 2 ^ P * j) (facts : TermFacts) (t : 
       omega arith
   not_refused strip_too_large h =
       let large = at_stated (IsTooLarge SCALE) h in
-      let total = total_at_scale P j t.rows scale (λ row at. (all_in (EnclosesContribution P) t.rows row (meets A12) at, stated_row_positive P facts t meets some positive row at)) in
+      let total = total_at_scale P j t.rows scale (λ row at. (all_in (EnclosesContribution P) t.rows row (meets Contributions) at, stated_row_positive P facts t meets some positive row at)) in
       let F : List StripEntry → Type 0 = λ entries. upper_total SCALE entries ≤ j * sum_by (λ (row : CertRow). row.hi) t.rows in
-      let bounded = subst F (meets A11).is_strip total in
-      let high = (meets A13).high in
-      let range = (meets A13).in_range in
+      let bounded = subst F (meets Strip).is_strip total in
+      let high = (meets Total).high in
+      let range = (meets Total).in_range in
       let sum_high : sum_by (λ (row : CertRow). row.hi) t.rows ≤ 2 * 2 ^ P = omega (arith, ints) in
       let scaled : j * sum_by (λ (row : CertRow). row.hi) t.rows ≤ j * (2 * 2 ^ P) = mul-le-mul_left j sum_high in
       too_large (upper_total SCALE (strip facts.rows t.k0)) (j * sum_by (λ (row : CertRow). row.hi) t.rows) (2 ^ P) j (2 ^ SCALE) scale large bounded scaled

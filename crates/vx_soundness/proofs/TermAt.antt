@@ -16,7 +16,9 @@ use Rattle.vx_formula.specs.Variance.{excess_at, variance_at}
 use Rattle.vx_formula.proofs.Lists.{In, map_in, all_in}
 use Rattle.vx_formula.proofs.LevelLemmas.{exponent_proper}
 use Rattle.vx_claims.specs.Exponential.{AreTaylorTerms}
-use Rattle.vx_claims.specs.TermTests.{A3, A4, A5, A6, A7, A8, A9, A10, A11, A12, A13, A14, Test, TermMeets, stated_pair, stated_entry, EnclosesContribution}
+use Rattle.vx_claims.specs.declared.acceptance.Test.{Test}
+use Rattle.vx_claims.specs.declared.acceptance.Test.TheVariants.{Minutes, Rate, TaylorTerms, Exponential, ClosestPair, Forward, Level, Excess, Strip, Contributions, Total, Variance}
+use Rattle.vx_claims.specs.TermTests.{TermMeets, stated_pair, stated_entry, EnclosesContribution}
 use Rattle.vx_soundness.specs.Enclosing.{Encloses}
 use Rattle.vx_soundness.proofs.ExponentialLemmas.{exponential_enclosed}
 use Rattle.vx_soundness.proofs.TermLemmas.{forward_proper, forward_enclosed, level_enclosed, excess_enclosed, excess_nonneg, IsSummed, rows_summed, total_enclosed, variance_enclosed}
@@ -34,41 +36,41 @@ pub record HoldsAt (P : ℕ) (facts : TermFacts) (t : CertTerm) (e : Fraction) :
 
 module _ (P : ℕ) (facts : TermFacts) (t : CertTerm) (meets : (test : Test) → TermMeets P facts t test) (some : 1 ≤ facts.minutes) (positive : (k : ℕ) → IsListed facts.rows k → 1 ≤ k) where
   pub term_of_facts : IsTermOf facts (stated_term facts t)
-  term_of_facts = record { rows_are = refl; rate_stands = meets A4; minutes_are = refl; pair_is_closest = meets A7 }
+  term_of_facts = record { rows_are = refl; rate_stands = meets Rate; minutes_are = refl; pair_is_closest = meets ClosestPair }
 
   pub stated_row_positive : (row : CertRow) → In t.rows row → 1 ≤ row.strike
   stated_row_positive row h =
       let at : In (map stated_entry t.rows) (stated_entry row) = map_in stated_entry t.rows row h in
       let F : List StripEntry → Type 0 = λ entries. In entries (stated_entry row) in
-      positive row.strike (entry_is_listed facts.rows t.k0 (stated_entry row) (subst F (meets A11).is_strip at))
+      positive row.strike (entry_is_listed facts.rows t.k0 (stated_entry row) (subst F (meets Strip).is_strip at))
 
   summed : IsSummed (2 ^ P) (sum_by (λ (row : CertRow). row.lo) t.rows) (sum_by (λ (row : CertRow). row.hi) t.rows) (strip_total facts.rows t.k0)
   summed =
       let F : List StripEntry → Type 0 = λ entries. IsSummed (2 ^ P) (sum_by (λ (row : CertRow). row.lo) t.rows) (sum_by (λ (row : CertRow). row.hi) t.rows) (total_of entries) in
-      subst F (meets A11).is_strip (rows_summed P t.rows (λ row h. (all_in (EnclosesContribution P) t.rows row (meets A12) h, stated_row_positive row h)))
+      subst F (meets Strip).is_strip (rows_summed P t.rows (λ row h. (all_in (EnclosesContribution P) t.rows row (meets Contributions) h, stated_row_positive row h)))
 
   pub holds_at : (e : Fraction) → InBracket (stated_term facts t) 12 e → HoldsAt P facts t e
   holds_at e member =
       let F : ℕ → Type 0 = λ m. AreTaylorTerms P (nat_abs t.rate * m) (YEAR_MINUTES * RATE_UNITS) t.t_lo t.t_hi in
-      let e_in = exponential_enclosed P facts.minutes t.rate t.t_lo t.t_hi t.e e some (subst F (meets A3) (meets A5)) (meets A6) member in
+      let e_in = exponential_enclosed P facts.minutes t.rate t.t_lo t.t_hi t.e e some (subst F (meets Minutes) (meets TaylorTerms)) (meets Exponential) member in
       let e_positive = members_are_positive 12 (exponent t.rate facts.minutes) e (exponent_proper t.rate facts.minutes) member in
       let forward = forward_at (stated_pair t.pair) e in
       let proper_forward = forward_proper t.pair e member.proper in
-      let f_in = forward_enclosed P t.pair e t.e t.f (meets A8) e_in in
-      let level = level_enclosed P facts.rows t.f t.k0 forward proper_forward (meets A9).0 f_in in
+      let f_in = forward_enclosed P t.pair e t.e t.f (meets Forward) e_in in
+      let level = level_enclosed P facts.rows t.f t.k0 forward proper_forward (meets Level).0 f_in in
       let k0_some = positive t.k0 level.is_listed in
       let excess = excess_at (stated_pair t.pair) t.k0 e in
-      let g_in = excess_enclosed P t.f t.g t.k0 forward proper_forward k0_some (meets A10) f_in in
+      let g_in = excess_enclosed P t.f t.g t.k0 forward proper_forward k0_some (meets Excess) f_in in
       let g_top = excess_nonneg t.k0 forward level.at_most in
       let total = strip_total facts.rows t.k0 in
-      let s_in = total_enclosed P t.rows t.s total (meets A13) summed in
+      let s_in = total_enclosed P t.rows t.s total (meets Total) summed in
       let proper_excess : IsProper excess = IsProper-/ᶠ (forward -ᶠ whole (pos t.k0)) t.k0 (IsProper--ᶠ forward (whole (pos t.k0)) proper_forward (omega arith)) k0_some in
       record {
         level = level;
         proper = IsProper--ᶠ (whole (pos 2) *ᶠ (e *ᶠ total)) (excess *ᶠ excess)
             (IsProper-*ᶠ (whole (pos 2)) (e *ᶠ total) (omega arith) (IsProper-*ᶠ e total member.proper summed.proper))
             (IsProper-*ᶠ excess excess proper_excess proper_excess);
-        enclosed = variance_enclosed P t.e t.g t.s t.w e excess total (meets A14) (meets A6).not_negative (meets A10).not_negative (meets A13).not_negative
+        enclosed = variance_enclosed P t.e t.g t.s t.w e excess total (meets Variance) (meets Exponential).not_negative (meets Excess).not_negative (meets Total).not_negative
             (omega (arith, ints, e_positive)) g_top summed.nonneg e_in g_in s_in;
       }
 

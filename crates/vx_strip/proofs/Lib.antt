@@ -1,3 +1,2 @@
-pub mod Walks
 pub mod Widths
 pub mod Sides

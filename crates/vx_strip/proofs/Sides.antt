@@ -13,7 +13,7 @@ use Rattle.vx_formula.specs.Selection.{is_selected, selected_rows}
 use Rattle.vx_formula.specs.Refusal.{LacksMoney, HasNoPut, HasNoCall}
 use Rattle.vx_formula.proofs.SelectionLemmas.{selected_rows_rise, level_is_selected}
 use Rattle.vx_strip.specs.Entries.{strike_at}
-use Rattle.vx_strip.proofs.Walks.{no_row, in_order, rises}
+use Rattle.vx_formula.proofs.Walks.{no_row, in_order, rises}
 
 -- an element stands at some place
 at_place : (rows : List StrikeRow) (k : ℕ) (row : StrikeRow) → k < length rows → get_or rows k row ≡ row → slice_get rows k ≡ Some row

@@ -14,7 +14,7 @@ use Rattle.vx_formula.proofs.Lists.{pairs_head, pairs_tail}
 use Rattle.vx_strip.specs.declared.strip.StripRow.{StripRow}
 use Rattle.vx_strip.specs.declared.limits.TheConstants.{WIDTH_MAX, Q4_MAX}
 use Rattle.vx_strip.specs.Entries.{entry_of, IsRowInRange}
-use Rattle.vx_strip.proofs.Walks.{no_row}
+use Rattle.vx_formula.proofs.Walks.{no_row}
 
 -- the row at a place of rising rows is below all behind it
 pub all_behind : (rows : List StrikeRow) (i : ℕ) → StrikesRise rows → i < length rows → All (λ row. (get_or rows i no_row).strike < row.strike) (drop (i + 1) rows)

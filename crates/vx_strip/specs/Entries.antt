@@ -1,8 +1,8 @@
 -- What a strip holds, and of which rows it is the strip. The ranges are this project's own.
-use Rattle.std.specs.Prelude.{◌≡◌, ℕ, ◌<◌, ◌≤◌, List, map, length, slice_index, All, AllPairs}
+use Rattle.std.specs.Prelude.{◌≡◌, ℕ, ◌<◌, ◌≤◌, List, map, length, All, AllPairs}
 use Rattle.vx_symbol.specs.declared.rows.StrikeRow.{StrikeRow}
 use Rattle.vx_symbol.specs.Symbol.{IsStrikeInRange}
-use Rattle.vx_formula.specs.Level.{strikes}
+pub use Rattle.vx_formula.specs.Level.{strike_at}
 use Rattle.vx_formula.specs.Strip.{StripEntry, strip}
 use Rattle.vx_strip.specs.declared.limits.TheConstants.{STRIP_ROWS_MIN, STRIP_ROWS_MAX, WIDTH_MAX, Q4_MAX}
 use Rattle.vx_strip.specs.declared.strip.StripRow.{StripRow}
@@ -14,10 +14,6 @@ entry_of row = record { strike = row.strike; d = row.d; q4 = row.q4 }
 
 abbrev pub entries_of : Strip → List StripEntry
 entries_of s = map entry_of s.rows
-
--- the strike of the row at a place, which is the level where the level is that row's
-abbrev pub strike_at : List StrikeRow → ℕ → ℕ
-strike_at rows place = slice_index (strikes rows) place
 
 -- the strip holds exactly the entries of these rows at a level
 abbrev pub IsStripOf : List StrikeRow → ℕ → Strip → Type 0

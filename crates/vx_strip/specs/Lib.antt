@@ -1,4 +1,2 @@
 pub mod Entries
 pub mod Refusals
--- how the selection is found
-pub mod Walk

@@ -5,7 +5,7 @@ ghost use Rattle.vx_symbol.specs.declared.rows.StrikeRow.{StrikeRow};
 ghost use Rattle.vx_formula.specs.Level.{StrikesRise};
 ghost use Rattle.vx_formula.specs.Selection.{is_selected, selected_rows};
 ghost use Rattle.vx_strip.specs.Entries.{strike_at};
-ghost use Rattle.vx_strip.specs.Walk.{IsHighestReached, IsLivePair, IsLowestReached, IsZeroBidPair, is_live_call, is_live_put};
+ghost use Rattle.vx_formula.specs.Walk.{IsHighestReached, IsLivePair, IsLowestReached, IsZeroBidPair, is_live_call, is_live_put};
 
 use std::alloc::Global;
 use vx_num::NoMemory;

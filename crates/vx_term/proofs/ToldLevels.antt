@@ -21,7 +21,7 @@ use Rattle.vx_forward.specs.Level.{IsLevelRow}
 use Rattle.vx_forward.specs.declared.level.K0Answer.TheVariants as level
 use Rattle.vx_forward.proofs.Printed.{level_lies_below}
 use Rattle.vx_strip.specs.Entries.{strike_at}
-use Rattle.vx_strip.proofs.Walks.{no_row}
+use Rattle.vx_formula.proofs.Walks.{no_row}
 use Rattle.vx_strip.proofs.Sides.{strike_at_read}
 use Rattle.vx_sum.specs.declared.sum.StripSum.{StripSum}
 use Rattle.vx_sum.specs.Sums.{IsSumOf}

@@ -18,7 +18,7 @@ returns-in-K0-clause-kept c =
     (first_failing_is_verdict book cert.v cert.line cert.time stated.expiry stated.pair stated.k0))
 
 pub returns-in-K0-clause-answer : goal.returns-in-K0-clause-answer
-returns-in-K0-clause-answer c = λ pushed stands short.
+returns-in-K0-clause-answer c = λ pushed stands lawful short.
     let book = c.args.events.now in
     let cert = c.args.c.now in
     let stated = c.in-K0 in
@@ -30,5 +30,5 @@ returns-in-K0-clause-answer c = λ pushed stands short.
     (first_failing_is_verdict book cert.v cert.line cert.time stated.expiry stated.pair stated.k0)))
 
 pub returns-in-K0-clause-sound : goal.returns-in-K0-clause-sound
-returns-in-K0-clause-sound c = λ pushed stands short lawful version e.
-    yes_means pushed c.args.c.now c.first_failing.result (returns-in-K0-clause-answer c pushed stands short) lawful version e
+returns-in-K0-clause-sound c = λ pushed stands lawful short version e.
+    yes_means pushed c.args.c.now c.first_failing.result (returns-in-K0-clause-answer c pushed stands lawful short) lawful version e

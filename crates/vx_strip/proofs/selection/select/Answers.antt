@@ -2,7 +2,7 @@ use Rattle.std.proofs.Common.{◌≡◌, ◌≤◌, map, length, get_or, None, s
 use Rattle.vx_formula.specs.Selection.{selected_rows}
 use Rattle.vx_formula.specs.Strip.{entries_after}
 use Rattle.vx_strip.specs.Entries.{entry_of, strike_at}
-use Rattle.vx_strip.proofs.Walks.{no_row}
+use Rattle.vx_formula.proofs.Walks.{no_row}
 use Rattle.vx_strip.proofs.Widths.{rows_in_range, same_length, rows_rise}
 use Rattle.vx_strip.proofs.Sides.{has_money, selected_rise, selected_lawful, no_put, no_call, has_put, has_call, three_rows, as_many_at_most}
 use Rattle.vx_strip.proofs.selection.select.Goals as goal

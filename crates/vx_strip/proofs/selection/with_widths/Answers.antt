@@ -2,7 +2,7 @@ use Rattle.std.proofs.Common.{◌≡◌, ◌+◌, ◌<◌, ◌≤◌, drop, leng
 use Rattle.std.proofs.lemmas.List.Elements.{All-drop}
 use Rattle.vx_symbol.specs.declared.limits.TheConstants.{STRIKE_MAX}
 use Rattle.vx_formula.specs.Strip.{doubled_width, first_strike, entries_after}
-use Rattle.vx_strip.proofs.Walks.{no_row}
+use Rattle.vx_formula.proofs.Walks.{no_row}
 use Rattle.vx_strip.proofs.Widths.{all_behind, head_above, first_of_all, strikes_at_most, one_pushed}
 use Rattle.vx_strip.proofs.selection.with_widths.Goals as goal
 

@@ -1,5 +1,5 @@
 use Rattle.std.proofs.Common.{ℕ, suc, ◌-◌, ◌<◌, ◌≤◌, length}
-use Rattle.vx_strip.specs.Walk.{IsLivePair, is_live_call}
+use Rattle.vx_formula.specs.Walk.{IsLivePair, is_live_call}
 use Rattle.vx_strip.proofs.walk.highest_reached.Given as goal
 
 abbrev pub invariant-loop-place : goal.invariant-loop-place

@@ -1,5 +1,5 @@
 use Rattle.std.proofs.Common.{arith}
-use Rattle.vx_strip.proofs.Walks.{no_row, put_within, put_beyond, call_within, call_beyond, level_taken}
+use Rattle.vx_formula.proofs.Walks.{no_row, put_within, put_beyond, call_within, call_beyond, level_taken}
 use Rattle.vx_strip.proofs.walk.is_taken.Goals as goal
 
 pub returns-then-reach-place : goal.returns-then-reach-place

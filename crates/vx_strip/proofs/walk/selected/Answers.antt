@@ -2,7 +2,7 @@ use Rattle.std.proofs.Common.{◌≡◌, ◌<◌, length, get_or, arith, rules}
 use Rattle.std.proofs.lemmas.Option.{slice_get-get_or}
 use Rattle.vx_formula.specs.Selection.{is_selected}
 use Rattle.vx_strip.specs.Entries.{strike_at}
-use Rattle.vx_strip.proofs.Walks.{no_row, kept_row, left_row}
+use Rattle.vx_formula.proofs.Walks.{no_row, kept_row, left_row}
 use Rattle.vx_strip.proofs.walk.selected.Goals as goal
 use Rattle.vx_strip.proofs.walk.selected.Goals.{then-is_taken+in_ok-map_err, else-is_taken}
 

@@ -6,12 +6,11 @@ use Rattle.std.proofs.lemmas.Option.{slice_get_within, get_or_from_slice_get, sl
 use Rattle.std.proofs.lemmas.List.{get_or-map, append-nil}
 use Rattle.std.proofs.lemmas.List.Elements.{filter_more}
 use Rattle.vx_symbol.specs.declared.rows.StrikeRow.{StrikeRow}
-use Rattle.vx_formula.specs.Level.{StrikesRise}
+use Rattle.vx_formula.specs.Level.{StrikesRise, strike_at}
 use Rattle.vx_formula.specs.Selection.{is_selected}
 use Rattle.vx_formula.specs.Laws.{IsSelectedPut, IsSelectedCall}
 use Rattle.vx_formula.proofs.SelectionLemmas.{selection_goes_by_rows}
-use Rattle.vx_strip.specs.Entries.{strike_at}
-use Rattle.vx_strip.specs.Walk.{is_live_put, is_live_call, IsLowestReached, IsHighestReached}
+use Rattle.vx_formula.specs.Walk.{is_live_put, is_live_call, IsLowestReached, IsHighestReached}
 
 -- a row to stand past the end of a list
 abbrev pub no_row : StrikeRow
