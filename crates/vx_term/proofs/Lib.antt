@@ -10,3 +10,5 @@ pub mod Ordered
 pub mod Variances
 -- from a told level to the answer
 pub mod ToldLevels
+-- how wide they are
+pub mod Widths

@@ -5,5 +5,6 @@ pub mod Ranges
 pub mod Runs
 pub mod Answer
 pub mod Meaning
+pub mod Holds
 pub mod Steps
 pub mod Laws
