@@ -1,5 +1,6 @@
 -- What a desk tells of a slot, and what its calls do to it.
 use Rattle.std.specs.Prelude.{false, ◌≡◌, ◌≢◌, ℕ, ◌+◌, ◌-◌, ◌^◌, ◌<◌, ◌≤◌, min, Bool, IsTrue, List, [], length, take, Option, Some, IfSome, Result, Ok, IfOk, OnOk, OnErr, MatchResult}
+use Rattle.std.specs.Option.{option_map}
 use Rattle.std.specs.Io.KnownBytes.{prepend_known, append_known, IsAtEnd}
 use Rattle.vx_desk.specs.declared.device.Slot.{Slot}
 use Rattle.vx_desk.specs.declared.device.Slot.TheVariants.{Out}
@@ -41,20 +42,20 @@ ChangesOnly slot old new = (other : Slot) → other ≢ slot → new other ≡ o
 abbrev pub OutIsOpen : (Slot → Told) → Type 0
 OutIsOpen told = IsTrue (told Out).is_open
 
--- what an open leaves in a slot that is read: just the bytes that the name holds, where they are told
+-- what an open leaves in a slot that is read: just the bytes that the name holds, told where they are
 abbrev pub LeavesHeld : Option (List ℕ) → Told → Type 0
-LeavesHeld held new = IfSome held (λ bytes. new.left ≡ Some bytes)
+LeavesHeld held new = new.left ≡ held
 
--- what an open leaves in a slot that is written: nothing sent, where that is told
-abbrev pub LeavesNothingSent : Told → Type 0
-LeavesNothingSent new = IfSome new.sent (λ bytes. bytes ≡ [])
+-- what an open leaves in a slot that is written: nothing sent, told where it was told what was sent
+abbrev pub LeavesNothingSent : Told → Told → Type 0
+LeavesNothingSent old new = new.sent ≡ option_map (λ bytes. []) old.sent
 
 -- the slot is open with this name, and begins with what the name holds or with nothing sent
 pub record IsOpened (slot : Slot) (opened_with : List ℕ) (held : Option (List ℕ)) (old new : Told) : Type 0 where
   pub open_now : IsTrue new.is_open
   pub name_given : IfSome new.name (λ bytes. bytes ≡ opened_with)
   pub to_read : IsReading slot → LeavesHeld held new × (new.sent ≡ old.sent)
-  pub to_write : IsWriting slot → LeavesNothingSent new × (new.left ≡ old.left)
+  pub to_write : IsWriting slot → LeavesNothingSent old new × (new.left ≡ old.left)
 
 -- the content and the state of a slot are as they were
 pub record SameContent (old new : Told) : Type 0 where

@@ -50,8 +50,8 @@ fn make_file(alloc: Global, name: &str, bytes: &[u8]) -> Result<MemFile, NoMemor
     ensures { IfOk result (λ file. (string_bytes file.name ≡ name.now) × (file.bytes.items ≡ bytes.now)) }
 {
     Ok(MemFile {
-        name: String::from_str(alloc, name).map_err(|_| NoMemory)?,
-        bytes: Vec::from_slice(alloc, bytes).map_err(|_| NoMemory)?,
+        name: String::from_str(alloc, name)?,
+        bytes: Vec::from_slice(alloc, bytes)?,
     })
 }
 
@@ -64,7 +64,7 @@ fn put_file(files: &mut Vec<MemFile>, file: MemFile) -> Result<(), NoMemory>
 {
     match find_file(files, file.name.as_str()) {
         Some(place) => files[place] = file,
-        None => files.push(file).map_err(|_| NoMemory)?,
+        None => files.push(file)?,
     }
     Ok(())
 }
@@ -158,7 +158,7 @@ impl Sink {
     {
         Ok(Sink {
             file: None,
-            bytes: Vec::with_capacity(alloc, room).map_err(|_| NoMemory)?,
+            bytes: Vec::with_capacity(alloc, room)?,
             failures: Failures::new(),
         })
     }
@@ -261,7 +261,7 @@ impl MemDesk {
             files: Vec::new(alloc),
             room,
             most,
-            fails: Vec::from_slice(alloc, fails).map_err(|_| NoMemory)?,
+            fails: Vec::from_slice(alloc, fails)?,
             calls: 0,
             feed: Source::new(),
             side: Source::new(),

@@ -64,7 +64,7 @@ impl LineReader {
         requires { (1 ≤ limit) × (limit ≤ LONGEST_LINE) }
         ensures { IfOk result (λ reader. reader ≡ record { slot = slot; limit = limit; waiting = []; number = 0; is_ended = false; last = None; last_bytes = [] }) }
     {
-        let buffer = vec![in alloc; 0u8; 2 * limit + 1 + BLOCK].map_err(|_| NoMemory)?;
+        let buffer = vec![in alloc; 0u8; 2 * limit + 1 + BLOCK]?;
         Ok(LineReader {
             buffer,
             slot,

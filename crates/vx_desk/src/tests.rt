@@ -1,7 +1,7 @@
 ghost use Rattle.std.specs.Prelude.{◌≡◌, ◌≤◌, IsTrue};
 ghost use Rattle.vx_desk.specs.Slots.{IsReading};
 
-use crate::{Desk, Failed, LineReader, MemDesk, ReadFault, RealDesk, SendFault, Slot, send};
+use crate::{Desk, Failed, LF, LineReader, MemDesk, ReadFault, RealDesk, SendFault, Slot, send};
 use std::alloc::Global;
 use std::process::Abort;
 use std::test::Fail;
@@ -51,6 +51,39 @@ fn cuts_lines_however_reads_are_cut(rt: HostRuntime) -> Result<(), Fail> {
     reads_pieces(&rt, rt.alloc(), 2)?;
     reads_pieces(&rt, rt.alloc(), 3)?;
     reads_pieces(&rt, rt.alloc(), 7)
+}
+
+#[test]
+fn takes_a_long_line_by_single_bytes(rt: HostRuntime) -> Result<(), Fail> {
+    let line = vec![in rt.alloc(); b'a'; 131_072]?;
+    let mut text = Vec::from_slice(rt.alloc(), &line)?;
+    text.push(LF)?;
+    let mut desk = MemDesk::new(rt.alloc(), 0, 1, &[])?;
+    desk.add_file("feed", &text)?;
+    desk.open(Slot::Feed, "feed")?;
+    let mut reader = LineReader::new(rt.alloc(), Slot::Feed, 131_072)?;
+    assert!(rt; !reader.holds_line());
+    expect_line(&rt, &mut reader, &mut desk, 1, &line);
+    assert_eq!(rt; reader.next(&mut desk), Ok(None));
+    Ok(())
+}
+
+#[test]
+fn says_which_lines_are_in_hand(rt: HostRuntime) -> Result<(), Fail> {
+    let mut desk = MemDesk::new(rt.alloc(), 0, 6, &[])?;
+    desk.add_file("feed", b"a\nb\ncdefg\n")?;
+    desk.open(Slot::Feed, "feed")?;
+    let mut reader = LineReader::new(rt.alloc(), Slot::Feed, 4)?;
+    expect_line(&rt, &mut reader, &mut desk, 1, b"a");
+    assert!(rt; reader.holds_line());
+    expect_line(&rt, &mut reader, &mut desk, 2, b"b");
+    assert!(rt; !reader.holds_line());
+    assert_eq!(rt;
+        reader.next(&mut desk),
+        Err(ReadFault::LineTooLong { number: 3 })
+    );
+    assert!(rt; !reader.holds_line());
+    Ok(())
 }
 
 #[test]

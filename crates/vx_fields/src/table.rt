@@ -41,7 +41,7 @@ fn grow(alloc: Global, rows: &mut Vec<ByteRecord>, count: usize) -> Result<(), N
     ensures room { OnOk result (count ≤ vec_len rows.new) }
 {
     while rows.len() < count {
-        rows.push(ByteRecord::new(alloc)).map_err(|_| NoMemory)?;
+        rows.push(ByteRecord::new(alloc))?;
     }
     Ok(())
 }

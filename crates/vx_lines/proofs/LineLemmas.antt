@@ -35,16 +35,18 @@ no_lf_tests : (bytes : List ℕ) → HasNoLf bytes → All (λ byte. (byte == li
 no_lf_tests bytes no_lf = λ k d within. other_byte _ (no_lf k d within)
 
 -- a text has a piece
-some_piece : (text : List ℕ) → 0 < length (slice_split (λ byte. byte == line_feed) text)
+pub some_piece : (text : List ℕ) → 0 < length (slice_split (λ byte. byte == line_feed) text)
 some_piece text = let count = length-slice_split (λ byte. byte == line_feed) text in omega (arith, count)
 
-line_before : (limit : ℕ) (line : List ℕ) (pieces : List (List ℕ)) → length line ≤ limit → 0 < length pieces
+-- a piece that fits is the first line, before the pieces behind it
+pub line_before : (limit : ℕ) (line : List ℕ) (pieces : List (List ℕ)) → length line ≤ limit → 0 < length pieces
     → lines_from limit (line ∷ pieces) ≡ line_then line (lines_from limit pieces)
 line_before limit line [] fits some = absurd (omega arith)
 line_before limit line (piece ∷ pieces) fits some =
     let short : nat_lt limit (length line) ≡ false = grind (arith, nat_tests) in rw short refl
 
-long_piece : (limit : ℕ) (piece : List ℕ) (pieces : List (List ℕ)) → limit < length piece → lines_from limit (piece ∷ pieces) ≡ ended too_long
+-- a piece that is too long is no line, and none comes behind it
+pub long_piece : (limit : ℕ) (piece : List ℕ) (pieces : List (List ℕ)) → limit < length piece → lines_from limit (piece ∷ pieces) ≡ ended too_long
 long_piece limit piece [] long = let h : nat_lt limit (length piece) ≡ true = grind (arith, nat_tests) in rw h refl
 long_piece limit piece (next ∷ pieces) long = let h : nat_lt limit (length piece) ≡ true = grind (arith, nat_tests) in rw h refl
 

@@ -7,7 +7,7 @@
 
 mod laws;
 
-pub use laws::cut_is_lines;
+pub use laws::{cut_is_lines, lines_are_cut};
 
 /// The byte that ends each line.
 pub const LF: u8 = b'\n';

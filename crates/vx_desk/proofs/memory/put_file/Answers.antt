@@ -15,15 +15,15 @@ returns-in-Some-clause-others c = λ other ne.
     let at : IsFileAt c.args.files.now.items (string_bytes c.args.file.name) c.in-Some.place = rw (← c.deref.ensures.value, ← c.as_str.ensures.value) c.in-Some.ensures in
     held-set_other c.args.files.now.items c.in-Some.place c.args.file (string_bytes c.args.file.name) other refl at.name_is ne
 
-pub returns-in_ok-map_err-in-None-clause-added : goal.returns-in_ok-map_err-in-None-clause-added
-returns-in_ok-map_err-in-None-clause-added c =
-    let done : is_ok c.push.result ≡ true = sym c.map_err.ensures.variant ∙ ap is_ok c.in_ok-map_err-in-None.was in
+pub returns-in_ok-push-in-None-clause-added : goal.returns-in_ok-push-in-None-clause-added
+returns-in_ok-push-in-None-clause-added c =
+    let done : is_ok c.push.result ≡ true = ap is_ok c.in_ok-push-in-None.was in
     let items : c.push.new.self.items ≡ c.args.files.now.items ++ c.args.file ∷ [] = rw done at c.push.ensures.items in
     let none : held (files_of c.args.files.now.items) (string_bytes c.args.file.name) ≡ _ = rw (← c.deref.ensures.value, ← c.as_str.ensures.value) c.in-None.ensures in
     rw items (held-pushed c.args.files.now.items c.args.file (string_bytes c.args.file.name) refl none)
 
-pub returns-in_ok-map_err-in-None-clause-others : goal.returns-in_ok-map_err-in-None-clause-others
-returns-in_ok-map_err-in-None-clause-others c = λ other ne.
-    let done : is_ok c.push.result ≡ true = sym c.map_err.ensures.variant ∙ ap is_ok c.in_ok-map_err-in-None.was in
+pub returns-in_ok-push-in-None-clause-others : goal.returns-in_ok-push-in-None-clause-others
+returns-in_ok-push-in-None-clause-others c = λ other ne.
+    let done : is_ok c.push.result ≡ true = ap is_ok c.in_ok-push-in-None.was in
     let items : c.push.new.self.items ≡ c.args.files.now.items ++ c.args.file ∷ [] = rw done at c.push.ensures.items in
     rw items (held-pushed_other c.args.files.now.items c.args.file (string_bytes c.args.file.name) other refl ne)
