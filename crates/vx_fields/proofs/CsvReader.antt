@@ -1,15 +1,18 @@
 -- A `csv` reader that has plain lines left, and what a read of it does.
-use Rattle.std.proofs.Common.{◌≡◌, ◌∙◌, ap, refl, ℕ, ◌+◌, ◌<◌, Bool, true, false, List, [], ◌∷◌, ◌++◌, length, take, drop, map, get_or, set, zero, suc, add-one, drop-cons, Option, Some, None, Bor, arith, inl}
+use Rattle.std.proofs.Common.{◌≡◌, ◌∙◌, sym, ap, refl, ℕ, ◌+◌, ◌<◌, Bool, true, false, List, [], ◌∷◌, ◌++◌, length, take, drop, map, get_or, set, zero, suc, add-one, drop-cons, Option, Some, None, Bor, arith, inl}
 use Rattle.std.specs.List.{list_all}
 use Rattle.std.proofs.Math.Seq.{take-suc, take-suc-set}
 use Rattle.std.proofs.lemmas.List.{map-append}
 use Rattle.csv.specs.Records.{Row, fields_of}
 use Rattle.csv.specs.declared.parser.State.{State}
-use Rattle.csv.specs.Reading.{default_config, source_of, pending_of, Ready, ReadRecord, ReadsNext, reader_config, reader_trim, reader_state, has_failed, took_first}
+use Rattle.csv.specs.Reading.{default_config, source_of, pending_of, Ready, ReadRecord, ReadsNext, reader_config, reader_trim, is_flexible, ExplainsRead, reader_state, has_failed, took_first}
+use Rattle.csv.specs.declared.error.ErrorKind.{ErrorKind}
+use Rattle.csv.specs.declared.error.ErrorKind.TheVariants as kind
 use Rattle.csv.specs.declared.reader.Reader.{Reader}
 use Rattle.csv.specs.declared.reader.Trim.TheVariants as trim
 use Rattle.csv.specs.declared.parser.State.TheVariants as st
 use Rattle.vx_fields.specs.Lines.{line_feed, is_plain_line, fields_of_line, text_of}
+use Rattle.vx_fields.specs.Refusal.{IsRefusal}
 use Rattle.vx_fields.proofs.CsvLines.{next_line, both_left, both_right}
 
 -- what is left of a slice that is read
@@ -20,6 +23,7 @@ left_of source = Some source.now
 pub record HasLeft (reader : Reader (Bor (List ℕ))) (text : List ℕ) : Type 0 where
   pub config : reader_config reader ≡ default_config
   pub trims : reader_trim reader ≡ trim.None
+  pub flexible : is_flexible reader ≡ true
   pub state : reader_state reader ≡ st.StartRecord
   pub ready : Ready reader
   pub working : has_failed reader ≡ false
@@ -41,9 +45,9 @@ source-checked new checked = rw checked refl
 -- a read of a line gives its fields and leaves the lines after it
 pub read_line : (old new : Reader (Bor (List ℕ))) (line rest : List ℕ) (found : Bool) (fields : List (List ℕ))
     → HasLeft old (line ++ line_feed ∷ rest) → is_plain_line line ≡ true
-    → ReadRecord left_of old new found fields → took_first new ≡ true → has_failed new ≡ has_failed old
+    → ReadRecord left_of old new found fields → took_first new ≡ true → has_failed new ≡ has_failed old → is_flexible new ≡ is_flexible old
     → (found ≡ true) × (fields ≡ fields_of_line line) × HasLeft new rest
-read_line old new line rest found fields left plain read first working =
+read_line old new line rest found fields left plain read first working flexible =
     let was = rw (left.config, left.state, left.source) at read.0 in
     let got = reads_plain _ line rest found fields _ plain was in (
       got.0,
@@ -51,6 +55,7 @@ read_line old new line rest found fields left plain read first working =
       record {
         config = read.2 ∙ left.config;
         trims = read.3 ∙ left.trims;
+        flexible = flexible ∙ left.flexible;
         state = got.2;
         ready = inl first;
         working = working ∙ left.working;
@@ -75,3 +80,12 @@ pub next_row : (lines : List (List ℕ)) (rows : List Row) (row : Row) (i : ℕ)
     → map fields_of (take (i + 1) (set rows i row)) ≡ map fields_of_line (take (i + 1) lines)
 next_row lines rows row i in_lines in_rows so_far here =
     rw (add-one, take-suc-set rows i row in_rows, take-suc lines i [] in_lines, map-append, map-append, so_far, here) refl
+
+-- a reader that takes records of any length is refused by no record
+pub refused : (old new : Reader (Bor (List ℕ))) (why : ErrorKind) → is_flexible old ≡ true → ExplainsRead left_of old new false why → IsRefusal why
+refused old new kind.OutOfMemory flexible explains = tt
+refused old new (kind.Io error) flexible explains = tt
+refused old new (kind.UnequalLengths place expected found) flexible explains = let clash : true ≡ false = sym flexible ∙ explains.0 in absurd cc
+refused old new (kind.Utf8 place error) flexible explains = let clash : false ≡ true = explains.0 in absurd cc
+refused old new (kind.Serialize why) flexible explains = absurd explains
+refused old new (kind.Deserialize place error) flexible explains = absurd explains

@@ -1,14 +1,29 @@
+//! A table of the fields of lines.
+
 ghost use Rattle.std.specs.Prelude.{◌≡◌, ◌+◌, ◌<◌, ◌≤◌, [], ◌++◌, length, map, true, ◌==◌, slice_get, slice_index_or, take, Some, OnOk, OnErr, vec_len, option_map};
 ghost use Rattle.std.specs.Option.{option_copied};
 ghost use Rattle.std.specs.List.{list_all};
+ghost use Rattle.csv.specs.Reading.{error_kind};
 ghost use Rattle.csv.specs.Records.{fields_of};
+ghost use Rattle.vx_fields.specs.Refusal.{IsRefusal};
 ghost use Rattle.vx_fields.specs.Lines.{fields_of_line, is_plain_line, lines_in, text_of};
 
 use crate::block::LineBlock;
-use csv::{ByteRecord, ReaderBuilder};
+use csv::{ByteRecord, Error, ErrorKind, ReaderBuilder};
 use std::alloc::Global;
 use std::marker::Model;
 use vx_num::NoMemory;
+
+// What `csv` refused with no record at fault: memory. No read of a slice fails, which its contracts do
+// not say.
+fn refusal(error: &Error) -> NoMemory
+    requires { IsRefusal (error_kind error.now) }
+{
+    match error.kind() {
+        ErrorKind::OutOfMemory | ErrorKind::Io(_) => NoMemory,
+        _ => unreachable!(),
+    }
+}
 
 // Reads the lines of a text into the first rows, one a line, by one reader.
 fn read_rows(
@@ -30,7 +45,8 @@ fn read_rows(
     for i in 0..count {
         match reader.read_byte_record(&mut rows[i]) {
             Ok(true) => {}
-            _ => return Err(NoMemory),
+            Ok(false) => unreachable!(),
+            Err(error) => return Err(refusal(&error)),
         }
     }
     Ok(())
