@@ -1,0 +1,4 @@
+pub mod Series
+pub mod Tables
+pub mod Opening
+pub mod StandsFor
