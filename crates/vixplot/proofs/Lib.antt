@@ -1,0 +1,4 @@
+-- figures of ticks
+pub mod FigureLemmas
+-- the first step that passes
+pub mod StepLemmas

@@ -1,0 +1,38 @@
+-- What the lines of a day say, and which of it is in range. The lines are those that `replay` prints.
+use Rattle.std.specs.Prelude.{ℕ, ◌≤◌, Bool, true, false, not, ◌&&◌, Option, Some, None, IfSome}
+use Rattle.vixplot.specs.declared.answer.Answer.{Answer}
+use Rattle.vixplot.specs.declared.answer.Answer.TheVariants.{Figure, Refused}
+use Rattle.vixplot.specs.declared.answer.Line.{Line}
+use Rattle.vixplot.specs.declared.answer.Line.TheVariants.{Tick as TickLine, End}
+use Rattle.vixplot.specs.declared.answer.Tick.{Tick}
+use Rattle.vixplot.specs.declared.day.Mark.{Mark}
+use Rattle.vx_clock.specs.declared.limits.TheConstants.{MINUTE_MAX}
+use Rattle.vx_num.specs.declared.limits.TheConstants.{CENTS_MAX}
+
+-- the figure of an answer with its minute, where it is one
+abbrev pub mark_of_answer : ℕ → Answer → Option Mark
+mark_of_answer minute (Figure cents) = Some (record { minute = minute; cents = cents })
+mark_of_answer minute _ = None
+
+abbrev pub mark_of : Tick → Option Mark
+mark_of tick = mark_of_answer tick.minute tick.answer
+
+-- the minute is one of a day, and a figure is at most the greatest, 3,200 points
+pub record IsTickInRange (tick : Tick) : Type 0 where
+  pub minute : tick.minute ≤ MINUTE_MAX
+  pub figure : IfSome (mark_of tick) (λ (mark : Mark). mark.cents ≤ CENTS_MAX)
+
+abbrev pub IsLineInRange : Line → Type 0
+IsLineInRange (TickLine tick) = IsTickInRange tick
+IsLineInRange (End counts) = Unit {0}
+
+abbrev pub is_published : Answer → Bool
+is_published (Figure cents) = true
+is_published _ = false
+
+abbrev pub is_refused : Answer → Bool
+is_refused (Refused reason which) = true
+is_refused _ = false
+
+abbrev pub is_undecided : Answer → Bool
+is_undecided answer = not (is_published answer) && not (is_refused answer)

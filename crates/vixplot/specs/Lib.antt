@@ -1,0 +1,8 @@
+-- what the lines say, and which of it is in range
+pub mod Answers
+-- what is told of a day
+pub mod Days
+-- scales with round numbers, and where a value stands in them
+pub mod Scales
+-- what lies in the picture
+pub mod Pictures

@@ -1,0 +1,24 @@
+//! The ranges of what is read, and the measures of the picture.
+
+/// The most days ahead that a line may name.
+pub const DAYS_MAX: u64 = 1_000;
+/// The most ticks of a picture.
+pub const TICKS_MAX: usize = 100_000;
+/// The places of the ends of an index, in points.
+pub const ENDS_PLACES: usize = 6;
+/// The places of the ends of a forward, in points.
+pub const FORWARD_PLACES: usize = 12;
+
+/// Where the drawing begins and how large it is, in tenths of a pixel.
+pub const LEFT: u32 = 900;
+
+pub const TOP: u32 = 900;
+
+pub const WIDTH: u32 = 10_800;
+
+pub const HEIGHT: u32 = 4_000;
+
+/// The most steps from the lowest figure to the highest.
+pub const STEPS_MAX: u32 = 7;
+/// The most steps from the first minute to the last.
+pub const TIMES_MAX: u16 = 12;
