@@ -1,1 +1,2 @@
 pub mod IndexDecisionIsOne
+pub mod IndexIsTight

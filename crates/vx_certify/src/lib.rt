@@ -6,4 +6,4 @@
 
 mod laws;
 
-pub use laws::index_decision_is_one;
+pub use laws::{index_decision_is_one, index_is_tight, single_is_tight};

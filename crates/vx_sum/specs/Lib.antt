@@ -4,3 +4,5 @@ pub mod Totals
 pub mod Held
 pub mod Kept
 pub mod Matching
+-- what holds of them
+pub mod Laws

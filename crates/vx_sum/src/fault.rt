@@ -1,3 +1,5 @@
+//! Why a strip has no sum.
+
 use thiserror::Error;
 
 /// Why a strip has no sum.

@@ -6,6 +6,7 @@
 mod divide;
 mod fault;
 mod kept;
+mod laws;
 mod matching;
 pub mod sum;
 mod summing;
@@ -13,6 +14,7 @@ mod totals;
 
 pub use fault::SumRefusal;
 pub use kept::KeptStrip;
+pub use laws::sum_is_one;
 pub use sum::{StripSum, SumRow, SumRows};
 pub use summing::sum_strip;
 

@@ -12,3 +12,15 @@ pub mod Variances
 pub mod ToldLevels
 -- how wide they are
 pub mod Widths
+-- what an answer says of the exponential's values
+pub mod Holding
+-- and what it means
+pub mod Meanings
+-- and how tight it is
+pub mod Tightness
+-- together, of a term's answer
+pub mod TermLaws
+-- results
+pub mod Results
+-- what is kept
+pub mod KeptTerms

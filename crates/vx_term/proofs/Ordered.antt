@@ -32,7 +32,7 @@ by_zero (negsuc a) (pos zero) less = omega (arith, ints)
 by_zero (negsuc a) (pos (suc b)) less = omega (arith, ints)
 by_zero (negsuc a) (negsuc b) less = omega (arith, ints)
 
-over_ordered : (x : Ends) (d : ℕ) → AreInOrder x → AreInOrder (over_ends x (pos d))
+pub over_ordered : (x : Ends) (d : ℕ) → AreInOrder x → AreInOrder (over_ends x (pos d))
 over_ordered x zero h = by_zero x.lo x.hi h
 over_ordered x (suc d) h = by_positive x.lo x.hi (pos (suc d)) (omega (arith, ints)) h
 
@@ -45,7 +45,7 @@ scale_ordered x (negsuc k) h = mul_anti_left x.lo x.hi (negsuc k) (omega (arith,
 add_ordered : (x y : Ends) → AreInOrder x → AreInOrder y → AreInOrder (add_ends x y)
 add_ordered x y h k = omega (arith, ints)
 
-sub_ordered : (x y : Ends) → AreInOrder x → AreInOrder y → AreInOrder (sub_ends x y)
+pub sub_ordered : (x y : Ends) → AreInOrder x → AreInOrder y → AreInOrder (sub_ends x y)
 sub_ordered x y h k = omega (arith, ints)
 
 mul_ordered : (P : ℕ) (x y : Ends) → AreInOrder (mul_ends P x y)

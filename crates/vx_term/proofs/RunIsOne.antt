@@ -24,6 +24,7 @@ use Rattle.vx_strip.specs.declared.strip.Strip.{Strip}
 use Rattle.vx_strip.specs.Entries.{entry_of, entries_of, strike_at}
 use Rattle.vx_sum.specs.declared.sum.StripSum.{StripSum}
 use Rattle.vx_sum.specs.Sums.{IsSumOf}
+use Rattle.vx_sum.proofs.SumIsOne.{sum_is_one}
 use Rattle.vx_term.specs.declared.answer.TermRun.{TermRun}
 use Rattle.vx_term.specs.Exponential.{IsExpRun}
 use Rattle.vx_term.specs.Variance.{excess_ends, variance_ends}
@@ -55,12 +56,6 @@ pub strip_is_one : (a b : Strip) → entries_of a ≡ entries_of b → a ≡ b
 strip_is_one a b e =
     let rows : a.rows ≡ b.rows = sym (rows_back a.rows) ∙ ap (map row_of) e ∙ rows_back b.rows in
     λ i. record { rows = rows i }
-
-pub sum_is_one : (P : ℕ) (entries : List StripEntry) (a b : StripSum P) → IsSumOf P entries a → IsSumOf P entries b → a ≡ b
-sum_is_one P entries a b h k =
-    let rows : a.rows ≡ b.rows = h.rows ∙ sym k.rows in
-    let totals : a.total ≡ b.total = h.total ∙ sym k.total in
-    λ i. record { rows = rows i; total = totals i }
 
 pair_is_one : (rows : List StrikeRow) (a b : Pair) → StrikesRise rows → IsClosestPair rows (formula_pair a) → IsClosestPair rows (formula_pair b) → a ≡ b
 pair_is_one rows a b rise h k =

@@ -1,5 +1,5 @@
 -- From a told level to a term's answer.
-use Rattle.std.proofs.Common.{◌≡◌, ◌∙◌, ℕ, ◌*◌, ◌^◌, ◌<◌, ◌≤◌, ℤ, pos, ◌-ℤ◌, ◌*ℤ◌, ◌≤ℤ◌, ◌<ℤ◌, nat_abs, List, Some, sym, ap, ap₂, subst, arith, lit<, lt_of_le_of_lt, to_z, of_z, to_z-of_z}
+use Rattle.std.proofs.Common.{◌≡◌, ◌∙◌, ℕ, ◌*◌, ◌^◌, ◌<◌, ◌≤◌, ℤ, pos, ◌-ℤ◌, ◌*ℤ◌, ◌≤ℤ◌, ◌<ℤ◌, nat_abs, List, Some, refl, sym, ap, ap₂, subst, arith, lit<, lt_of_le_of_lt, to_z, of_z, to_z-of_z}
 use Rattle.std.specs.Prelude.{slice_get, length, Option, Result, Ok, Err, IfOk, IfSome, FitsSigned}
 use Rattle.std.proofs.lemmas.Int.{ints, by_lt_z, fits_signed_from_abs}
 use mir.Syntax.{w32}
@@ -8,7 +8,7 @@ use Rattle.vx_num.proofs.Whole.{mul_cancel_strict}
 use Rattle.vx_symbol.specs.declared.rows.StrikeRow.{StrikeRow}
 use Rattle.vx_symbol.specs.Rows.{IsLawfulRow, AreLawfulRows, IsRateInRange}
 use Rattle.vx_symbol.specs.Symbol.{IsStrikeInRange}
-use Rattle.vx_interval.specs.Ends.{Ends, unit}
+use Rattle.vx_interval.specs.Ends.{Ends, IsScale, IsInterval, unit}
 use Rattle.vx_interval.proofs.EndsLemmas.{unit_positive}
 use Rattle.vx_formula.specs.Refusal.{HasNoneAbove}
 use Rattle.vx_symbol.specs.declared.limits.TheConstants.{HALF_MAX}
@@ -16,17 +16,18 @@ use Rattle.vx_interval.proofs.Widths.{within}
 use Rattle.vx_formula.specs.Pair.{Pair, pair_of, IsClosestPair, live_pairs}
 use Rattle.vx_formula.proofs.Lists.{in_from_contains, all_in}
 use Rattle.vx_formula.proofs.PairLemmas.{row_of_pair}
+use Rattle.vx_forward.specs.Pairs.{formula_pair}
 use Rattle.vx_forward.specs.Forward.{printed_forward}
 use Rattle.vx_forward.specs.Level.{IsLevelRow}
 use Rattle.vx_forward.specs.declared.level.K0Answer.TheVariants as level
 use Rattle.vx_forward.proofs.Printed.{level_lies_below}
-use Rattle.vx_strip.specs.Entries.{strike_at}
-use Rattle.vx_formula.proofs.Walks.{no_row}
-use Rattle.vx_strip.proofs.Sides.{strike_at_read}
+use Rattle.vx_strip.specs.Entries.{strike_at, entries_of, IsStripOf, IsStripInRange}
+use Rattle.vx_formula.proofs.Walks.{no_row, strike_at_is}
 use Rattle.vx_sum.specs.declared.sum.StripSum.{StripSum}
-use Rattle.vx_sum.specs.Sums.{IsSumOf}
+use Rattle.vx_sum.specs.Sums.{total_ends, IsSumOf, IsSumRefusal}
+use Rattle.vx_sum.proofs.RowByRow.{totals_ordered}
+use Rattle.vx_sum.proofs.Enclosure.{accepted_fits}
 use Rattle.vx_formula.specs.Strip.{StripEntry}
-use Rattle.vx_term.specs.declared.steps.Told.{Told}
 use Rattle.vx_num.specs.Fraction.{Fraction}
 use Rattle.vx_clock.specs.declared.terms.Expiry.{Expiry}
 use Rattle.vx_bounds.specs.Exponential.{IsTerms, low_term, high_term, signed_ends}
@@ -36,17 +37,21 @@ use Rattle.vx_term.specs.declared.answer.TermRefusal.{TermRefusal}
 use Rattle.vx_term.specs.declared.answer.TermRefusal.TheVariants.{NoRate, NoPair, NoStrikeBelow, NoStrikeAbove, NoMoney, NoPut, NoCall, StripTooLarge}
 use Rattle.vx_term.specs.declared.answer.TermAnswer.{TermAnswer}
 use Rattle.vx_term.specs.declared.answer.TermAnswer.TheVariants.{Run, Refused, UndecidedForward}
-use Rattle.vx_term.specs.Runs.{ForwardSays, Says, RefusesRows, IsRunOfRows}
+use Rattle.vx_formula.specs.Strip.{upper_total}
+use Rattle.vx_strip.specs.declared.fault.StripRefusal.{StripRefusal}
+use Rattle.vx_strip.specs.declared.fault.StripRefusal.TheVariants as strip_refusal
+use Rattle.vx_strip.specs.declared.strip.Strip.{Strip}
+use Rattle.vx_strip.specs.Refusals.{IsStripRefusal, HasNoStripRefusal}
+use Rattle.vx_sum.specs.declared.fault.SumRefusal.{SumRefusal}
+use Rattle.vx_sum.specs.declared.fault.SumRefusal.TheVariants as sum_refusal
+use Rattle.vx_term.proofs.Results.{same_ok}
+use Rattle.vx_term.specs.declared.level.ToldLevel.{ToldLevel}
+use Rattle.vx_term.specs.Runs.{HasForward, ForwardSays, Says, TellsLevel, RefusesRows, IsRunOfRows}
 use Rattle.vx_term.specs.Answer.{AtStandingRate, IsAnswerOfRows, IsTermAnswer}
 use Rattle.vx_term.specs.Exponential.{IsExpRun}
-use Rattle.vx_term.specs.Steps.{IsTold, IsUpTo, IsExponentialInRange}
+use Rattle.vx_term.specs.Steps.{IsUpTo, IsExponentialInRange, IsTold, IsAnswerWithoutLevel, refusal_of_strip, refusal_of_sum}
 
--- the row at the place has the level, and its strike is in range
-level_of_row : (P : ℕ) (rows : List StrikeRow) (place : ℕ) (told : Told P) (row : StrikeRow) → slice_get rows place ≡ Some row → told.k0 ≡ strike_at rows place → told.k0 ≡ row.strike
-level_of_row P rows place told row at is =
-    let listed = slice_get_within rows place row at in
-    is ∙ strike_at_read rows place listed ∙ ap (λ (r : StrikeRow). r.strike) (get_or_from_slice_get rows place row no_row at)
-
+-- the strike of a row at a place is in range
 strike_in_range : (rows : List StrikeRow) (place : ℕ) (row : StrikeRow) → AreLawfulRows rows → slice_get rows place ≡ Some row → IsStrikeInRange row.strike
 strike_in_range rows place row lawful at =
     let one = subst IsLawfulRow (get_or_from_slice_get rows place row no_row at) (lawful.each place no_row (slice_get_within rows place row at)) in
@@ -74,14 +79,10 @@ row_is_level P rows f place lawful row h some =
       at_most_twice = by_lt_z f.hi (pos (2 * row.strike) *ℤ unit P) (λ q. omega (arith, ints)) (λ most. absurd (some (none most)));
     }
 
-pub told_is_level : (P : ℕ) (rows : List StrikeRow) (place : ℕ) (told : Told P) → AreLawfulRows rows → IsTold P rows place told → IsLevelOfForward P told.k0 told.f
-told_is_level P rows place told lawful h =
-    let said = h.tells in
-    let row = said.0 in
-    let is = said.1 in
-    let g = is.greatest in
-    let at_row = row_is_level P rows told.f place lawful row is said.2 in
-    subst (λ (k : ℕ). IsLevelOfForward P k told.f) (sym (level_of_row P rows place told row g.is_at h.level_is)) at_row
+-- the strike of a level's place
+pub placed_is_level : (P : ℕ) (rows : List StrikeRow) (f : Ends) (place : ℕ) → AreLawfulRows rows → ForwardSays P rows f (level.At place) → IsLevelOfForward P (strike_at rows place) f
+placed_is_level P rows f place lawful (row, is, one) =
+    subst (λ (k : ℕ). IsLevelOfForward P k f) (sym (strike_at_is rows place row (is.greatest).is_at)) (row_is_level P rows f place lawful row is one)
 
 -- an accepted sum is at most 2
 pub total_up_to : (P : ℕ) (entries : List StripEntry) (s : StripSum P) → IsSumOf P entries s → IsUpTo (pos 2 *ℤ unit P) s.total
@@ -168,3 +169,64 @@ rate_given stood rate is h =
     let small : nat_abs rate ≤ 25000000 = within rate 25000000 (omega (arith, ints, in_range.1)) (omega (arith, ints, in_range.0)) in
     let fits : FitsSigned w32 rate = fits_signed_from_abs w32 rate (lt_of_le_of_lt small (lit< tt)) in
     to_z-of_z fits
+
+-- ---- the answers of rows without a run
+
+module _ (P : ℕ) (x : Expiry) (minutes : ℕ) (rate : ℤ) (exp : ExpRun P) (rows : List StrikeRow) where
+  pub answer_without_level : (a : TermAnswer P) → IsAnswerWithoutLevel P rows exp.value a → IsAnswerOfRows P x minutes rate exp rows a
+  answer_without_level (Run run) h = absurd h
+  answer_without_level (Refused refusal) h = h
+  answer_without_level (UndecidedForward strike lo hi) h = h
+
+  -- a told level's strip is refused
+  pub answer_without_strip : (k : ℕ) (reason : StripRefusal) (refusal : TermRefusal) → TellsLevel P rows exp.value k → IsStripRefusal rows k reason → refusal_of_strip reason ≡ Ok refusal
+      → RefusesRows P rows exp.value refusal
+  answer_without_strip k strip_refusal.NoMemory refusal tells h is = absurd cc
+  answer_without_strip k strip_refusal.NoMoney refusal tells h is = subst (RefusesRows P rows exp.value) (same_ok (refusal_of_strip strip_refusal.NoMoney) NoMoney refusal refl is) (k, tells, h)
+  answer_without_strip k strip_refusal.NoPut refusal tells h is = subst (RefusesRows P rows exp.value) (same_ok (refusal_of_strip strip_refusal.NoPut) NoPut refusal refl is) (k, tells, h)
+  answer_without_strip k strip_refusal.NoCall refusal tells h is = subst (RefusesRows P rows exp.value) (same_ok (refusal_of_strip strip_refusal.NoCall) NoCall refusal refl is) (k, tells, h)
+
+  -- and the sum of its strip
+  pub answer_without_sum : (k : ℕ) (s : Strip) (reason : SumRefusal) (refusal : TermRefusal) → TellsLevel P rows exp.value k → HasNoStripRefusal rows k → IsStripOf rows k s
+      → IsSumRefusal P (entries_of s) reason → refusal_of_sum reason ≡ Ok refusal → RefusesRows P rows exp.value refusal
+  answer_without_sum k s sum_refusal.NoMemory refusal tells has strip_is h is = absurd cc
+  answer_without_sum k s (sum_refusal.StripTooLarge upper) refusal tells has strip_is h is =
+      let large : RefusesRows P rows exp.value (StripTooLarge upper) = record {
+        k = k;
+        tells = tells;
+        has_strip = has;
+        upper_is = h.upper_is ∙ ap (upper_total P) strip_is;
+        too_large = h.too_large;
+      } in
+      subst (RefusesRows P rows exp.value) (same_ok (refusal_of_sum (sum_refusal.StripTooLarge upper)) (StripTooLarge upper) refusal refl is) large
+
+-- a told level, as the rows tell it
+pub told_tells : (P : ℕ) (rows : List StrikeRow) (e : Ends) (told : ToldLevel P) → IsTold P rows e told → TellsLevel P rows e (strike_at rows told.place)
+told_tells P rows e told h =
+    let has : HasForward P rows e told.f = record { pair = formula_pair told.pair; is_closest = h.pair_is; forward_is = h.forward_is } in
+    (told.place, (told.f, has, h.tells), refl)
+
+-- the level of a told one
+pub told_is_level : (P : ℕ) (rows : List StrikeRow) (e : Ends) (told : ToldLevel P) (k : ℕ) → AreLawfulRows rows → IsTold P rows e told → k ≡ strike_at rows told.place → IsLevelOfForward P k told.f
+told_is_level P rows e told k lawful h is = subst (λ (j : ℕ). IsLevelOfForward P j told.f) (sym is) (placed_is_level P rows told.f told.place lawful h.tells)
+
+-- the sum of a strip is an interval
+pub total_interval : (P : ℕ) (s : Strip) (sum : StripSum P) → IsScale P → IsStripInRange s → IsSumOf P (entries_of s) sum → IsInterval P sum.total
+total_interval P s sum scale in_range h =
+    let fits = accepted_fits P (entries_of s) scale.1 h.accepted in
+    let ordered = totals_ordered P s.rows in_range.each in
+    let interval : IsInterval P (total_ends P (entries_of s)) = record {
+      scale = scale;
+      ordered = omega (arith, ints, ordered);
+      in_range = record { low = omega (arith, ints); high = omega (arith, ints, fits) };
+    } in
+    subst (IsInterval P) (sym h.total) interval
+
+-- the answer of a term, where what is given has the term's minutes and the rate that stands
+pub term_from_given : (P : ℕ) (x : Expiry) (facts : TermFacts) (standing : ℤ) (minutes : ℕ) (rate : ℤ) (exp : ExpRun P) {E : Type 0} (result : Result (TermAnswer P) E)
+    → facts.rate ≡ Some standing → rate ≡ standing → minutes ≡ facts.minutes → IsExpRun P (exponent standing facts.minutes) exp
+    → IfOk result (IsAnswerOfRows P x minutes rate exp facts.rows) → IfOk result (IsTermAnswer P x facts)
+term_from_given P x facts standing minutes rate exp result stands rates times run h =
+    let at_rate = subst (λ (z : ℤ). IfOk result (IsAnswerOfRows P x minutes z exp facts.rows)) rates h in
+    let at_time = subst (λ (n : ℕ). IfOk result (IsAnswerOfRows P x n standing exp facts.rows)) times at_rate in
+    term_from_rows P x facts standing exp stands run result at_time

@@ -1,7 +1,7 @@
 -- How wide a term's variance is, and the square of the index.
-use Rattle.std.proofs.Common.{◌≡◌, ℕ, ◌+◌, ◌*◌, ◌-◌, ◌^◌, ◌<◌, ◌≤◌, ℤ, pos, ◌+ℤ◌, ◌-ℤ◌, ◌*ℤ◌, nat_abs, ◌≤ℤ◌, ◌<ℤ◌, sym, ap, arith}
+use Rattle.std.proofs.Common.{◌≡◌, ℕ, ◌+◌, ◌*◌, ◌-◌, ◌<◌, ◌≤◌, ℤ, pos, ◌-ℤ◌, ◌*ℤ◌, nat_abs, ◌≤ℤ◌, ◌<ℤ◌, arith}
 use Rattle.std.proofs.lemmas.Int.{ints}
-use Rattle.vx_num.proofs.Whole.{mul_assoc, mul_comm, mul_left_comm, add_mul, mul_mono, mul_mono_left, mul_both, mul_nonneg, mul_positive, mul_cancel_strict}
+use Rattle.vx_num.proofs.Whole.{mul_assoc, mul_mono, mul_mono_left, mul_both, mul_positive, mul_cancel_strict}
 use Rattle.vx_interval.specs.Ends.{Ends, unit, width, magnitude, exact_ends, add_ends, sub_ends, scale_ends, mul_ends, square_ends, over_ends}
 use Rattle.vx_interval.proofs.EndsLemmas.{unit_positive}
 use Rattle.vx_interval.proofs.Widths.{within, add_width, sub_width, scale_width, over_width, mul_width, square_width}

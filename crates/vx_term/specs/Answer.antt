@@ -3,6 +3,7 @@ use Rattle.std.specs.Prelude.{◌≡◌, ℕ, ℤ, List, Some, None}
 use Rattle.vx_clock.specs.declared.terms.Expiry.{Expiry}
 use Rattle.vx_interval.specs.Ends.{Ends}
 use Rattle.vx_symbol.specs.declared.rows.StrikeRow.{StrikeRow}
+use Rattle.vx_symbol.specs.declared.rows.TermView.{TermView}
 use Rattle.vx_bounds.specs.Exponential.{signed_ends}
 use Rattle.vx_bounds.specs.declared.exponential.ExpRun.{ExpRun}
 use Rattle.vx_formula.specs.Term.{TermFacts, exponent}
@@ -14,6 +15,14 @@ use Rattle.vx_term.specs.declared.answer.TermAnswer.{TermAnswer}
 use Rattle.vx_term.specs.declared.answer.TermAnswer.TheVariants.{Run, Refused, UndecidedForward}
 use Rattle.vx_term.specs.Exponential.{IsExpRun}
 use Rattle.vx_term.specs.Runs.{Says, RefusesRows, IsRunOfRows}
+
+-- what is known of a term whose rows and rate are shown, so many minutes before its settlement
+abbrev pub facts_of : TermView → ℕ → TermFacts
+facts_of term minutes = record { rows = term.rows.now; rate = term.rate; minutes = minutes }
+
+-- and where a rate is given with the rows
+abbrev pub facts_at : TermView → ℕ → ℤ → TermFacts
+facts_at term minutes rate = record { rows = term.rows.now; rate = Some rate; minutes = minutes }
 
 -- the ends of the exponential at a rate over so many minutes
 abbrev pub exponential_ends : ℕ → ℤ → ℕ → Ends

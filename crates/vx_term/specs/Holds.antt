@@ -11,8 +11,8 @@ use Rattle.vx_formula.specs.Level.{IsListed, IsGreatestBelow}
 use Rattle.vx_formula.specs.Strip.{strip, upper_total}
 use Rattle.vx_formula.specs.Variance.{variance_at}
 use Rattle.vx_formula.specs.Refusal.{HasNoneAbove, LacksMoney, HasNoPut, HasNoCall, IsTooLarge}
+use Rattle.vx_formula.specs.StrikesByEnds.{IsLowestBetween}
 use Rattle.vx_forward.specs.Pairs.{formula_pair}
-use Rattle.vx_forward.specs.Level.{IsLowestBetween}
 use Rattle.vx_strip.specs.Refusals.{HasNoStripRefusal}
 use Rattle.vx_term.specs.declared.answer.TermRefusal.{TermRefusal}
 use Rattle.vx_term.specs.declared.answer.TermRefusal.TheVariants.{NoRate, NoPair, NoStrikeBelow, NoStrikeAbove, NoMoney, NoPut, NoCall, StripTooLarge}

@@ -6,5 +6,7 @@ pub mod Runs
 pub mod Answer
 pub mod Meaning
 pub mod Holds
+pub mod Tight
 pub mod Steps
+pub mod KeptAfter
 pub mod Laws

@@ -1,5 +1,5 @@
 -- What a term's answer says of the formula: what holds of a run, of a refusal and of an undecided forward. This project's own.
-use Rattle.std.specs.Prelude.{◌≡◌, ℕ, ◌<◌, ℤ, List}
+use Rattle.std.specs.Prelude.{ℕ, ◌<◌, ℤ, List}
 use Rattle.vx_num.specs.Fraction.{Fraction}
 use Rattle.vx_symbol.specs.declared.rows.StrikeRow.{StrikeRow}
 use Rattle.vx_interval.specs.Membership.{IsMember}
@@ -8,8 +8,9 @@ use Rattle.vx_formula.specs.Level.{IsLevelAt}
 use Rattle.vx_formula.specs.Variance.{variance_at}
 use Rattle.vx_formula.specs.Between.{ForwardBetween}
 use Rattle.vx_formula.specs.Refusal.{TermReason, no_rate, no_pair, no_strike_below, no_strike_above, no_money, no_put, no_call, strip_too_large, TermRefuses, term_place, FirstTermRefusal}
+use Rattle.vx_formula.specs.StrikesByEnds.{IsLowestBetween}
+use Rattle.vx_formula.specs.TermOutcomes.{undecided_place}
 use Rattle.vx_forward.specs.Pairs.{formula_pair}
-use Rattle.vx_forward.specs.Level.{IsLowestBetween}
 use Rattle.vx_term.specs.declared.answer.TermRefusal.{TermRefusal}
 use Rattle.vx_term.specs.declared.answer.TermRefusal.TheVariants.{NoRate, NoPair, NoStrikeBelow, NoStrikeAbove, NoMoney, NoPut, NoCall, StripTooLarge}
 use Rattle.vx_term.specs.declared.answer.TermRun.{TermRun}
@@ -43,10 +44,6 @@ pub record RunMeans (P depth : ℕ) (facts : TermFacts) (run : TermRun P) : Type
   pub encloses : (e : Fraction) → InBracket (term_of_run facts.rows run) depth e → IsMember P run.w (variance_at (term_of_run facts.rows run) run.k0 e)
   pub none_refuses : (reason : TermReason) → ¬ TermRefuses P facts reason
 
--- the place of an undecided forward among a term's answers
-abbrev pub forward_place : ℕ
-forward_place = 3
-
 -- an undecided forward: the ends lie around the forward, the strike is the lowest listed one between them, and no refusal at an
 -- earlier place holds
 pub record UndecidedMeans (P : ℕ) (facts : TermFacts) (strike : ℕ) (lo hi : ℤ) : Type 0 where
@@ -54,7 +51,7 @@ pub record UndecidedMeans (P : ℕ) (facts : TermFacts) (strike : ℕ) (lo hi : 
   pub is_of_facts : IsTermOf facts term
   pub between : ForwardBetween term lo hi
   pub lowest : IsLowestBetween term.rows lo hi strike
-  pub none_earlier : (reason : TermReason) → term_place reason < forward_place → ¬ TermRefuses P facts reason
+  pub none_earlier : (reason : TermReason) → term_place reason < undecided_place → ¬ TermRefuses P facts reason
 
 -- a term's answer; a refusal is the first that holds
 abbrev pub TermAnswerMeans : (P depth : ℕ) → TermFacts → TermAnswer P → Type 0

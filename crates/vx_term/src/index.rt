@@ -8,7 +8,7 @@ ghost use Rattle.vx_interval.specs.Membership.{IsMember};
 ghost use Rattle.vx_formula.specs.declared.limits.TheConstants.{THIRTY_DAYS, YEAR_MINUTES};
 ghost use Rattle.vx_formula.specs.Index.{index_square, single_square};
 ghost use Rattle.vx_term.specs.Index.{interpolated_ends, single_ends};
-ghost use Rattle.vx_term.specs.Ranges.{AreDaysInRange, AreMinutesInRange, AreWeightsInRange, IsSquareInRange, IsVarianceInRange};
+ghost use Rattle.vx_term.specs.Ranges.{AreDaysInRange, AreMinutesInRange, AreWeightsInRange, IsSquareInRange, IsSquareNarrow, IsVarianceInRange, IsVarianceNarrow};
 
 use vx_clock::limits::DAY_MINUTES;
 use vx_formula::limits::{THIRTY_DAYS, YEAR_MINUTES};
@@ -20,24 +20,25 @@ use vx_interval::Iv;
 ///
 /// The days are from 7 to 120, the minutes from 1 to 262,800 and `n1` below `n2`; both weights, in
 /// absolute value, are together at most three times the distance of the minutes; both variances are
-/// within 6. The square is then within 1024. Takes no memory.
+/// within 6. The square is then within 1024, and from variances at most 37,000 units wide it is at most
+/// 5,788,000 units wide. Takes no memory.
 pub fn interpolate<const P: u32>(w1: &Iv<P>, n1: u32, w2: &Iv<P>, n2: u32, days: u32) -> Iv<P>
     requires days { AreDaysInRange days }
     requires near_minutes { AreMinutesInRange n1 }
     requires next_minutes { AreMinutesInRange n2 }
     requires rising { n1 < n2 }
     requires weights { AreWeightsInRange (DAY_MINUTES * days) n1 n2 }
+    requires near_interval { IsInterval P w1.now }
+    requires next_interval { IsInterval P w2.now }
     requires near_range { IsVarianceInRange P w1.now }
     requires next_range { IsVarianceInRange P w2.now }
     ensures ends { result ≡ interpolated_ends (DAY_MINUTES * days) w1.now n1 w2.now n2 }
     ensures encloses { (near next : Fraction) → IsMember P w1.now near → IsMember P w2.now next
         → IsMember P result (index_square (DAY_MINUTES * days) near n1 next n2) }
+    ensures narrow { IsVarianceNarrow w1.now → IsVarianceNarrow w2.now → IsSquareNarrow result }
     ensures in_range { IsSquareInRange P result }
     ensures interval { IsInterval P result }
 {
-    let low1 = w1.lo();
-    let low2 = w2.lo();
-    prove!(low1 <= w1.hi());
     let target = DAY_MINUTES * days;
     let near = w1.scale(minutes_from(target, n2));
     let next = w2.scale(minutes_from(n1, target));
@@ -48,17 +49,18 @@ pub fn interpolate<const P: u32>(w1: &Iv<P>, n1: u32, w2: &Iv<P>, n2: u32, days:
 /// The square of the index over 100 from the variance of one term at exactly 30 days, taken for a year.
 /// After the Cboe VIX white paper, whose weights leave that term alone.
 ///
-/// The variance is within 6, and the square then within 1024. Takes no memory.
+/// The variance is within 6, and the square then within 1024; from a variance at most 37,000 units wide
+/// it is at most 5,788,000 units wide. Takes no memory.
 pub fn single<const P: u32>(w: &Iv<P>) -> Iv<P>
+    requires interval { IsInterval P w.now }
     requires range { IsVarianceInRange P w.now }
     ensures ends { result ≡ single_ends w.now }
     ensures encloses { (variance : Fraction) → IsMember P w.now variance
         → IsMember P result (single_square variance) }
+    ensures narrow { IsVarianceNarrow w.now → IsSquareNarrow result }
     ensures in_range { IsSquareInRange P result }
     ensures interval { IsInterval P result }
 {
-    let low = w.lo();
-    prove!(low <= w.hi());
     let year = w.scale(year_minutes());
     year.over(thirty_days())
 }

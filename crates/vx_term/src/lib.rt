@@ -7,14 +7,20 @@
 
 mod answer;
 mod index;
+mod kept;
 mod laws;
+mod level;
 pub mod limits;
-mod steps;
+mod run;
 mod variance;
 
 pub use answer::{TermAnswer, TermRefusal, TermRun};
 pub use index::{interpolate, single};
-pub use laws::{square_is_ordered, term_answer_is_one, variance_is_ordered};
+pub use kept::term_variance_kept;
+pub use laws::{
+    answer_is_meant, answer_is_tight, clear_forward_is_decided, exponential_is_one,
+    square_is_ordered, term_answer_is_one, variance_is_ordered,
+};
 pub use variance::{term_variance, variance_with};
 
 #[cfg(test)]

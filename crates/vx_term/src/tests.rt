@@ -1,12 +1,15 @@
-ghost use Rattle.std.specs.Prelude.{IfSome};
+ghost use Rattle.std.specs.Prelude.{◌≡◌, ◌<◌, IfSome};
 ghost use Rattle.vx_symbol.specs.Rows.{AreLawfulRows, IsRateInRange};
 
-use crate::{TermAnswer, TermRefusal, term_variance, variance_with};
+use crate::{TermAnswer, TermRefusal, term_variance, term_variance_kept, variance_with};
 use std::alloc::Global;
+use std::marker::Brand;
+use std::sync::ledger::{Blank, Ledger};
 use std::test::Fail;
 use vx_bounds::exp_signed;
 use vx_clock::{DayNo, Expiry, Root};
-use vx_num::NoMemory;
+use vx_num::{NoMemory, Steps};
+use vx_sum::KeptStrip;
 use vx_symbol::{Price, StrikeRow, TermView};
 
 // The prices 10.00 and 50.00, bid and ask alike, and none.
@@ -82,6 +85,23 @@ fn answer_with_one(alloc: Global, rows: &[StrikeRow]) -> Result<TermAnswer<62>, 
     variance_with::<62>(alloc, &term, 43_200, 0, exp)
 }
 
+// The numbers of an answer over a kept strip that had no refresh yet.
+fn kept_numbers<L: Ledger>(alloc: Global, blank: Blank) -> Result<Option<[i128; 6]>, NoMemory>
+    requires name { blank.name ≡ L.name }
+    requires parts { blank.parts ≡ L.parts }
+    requires shares { 0 < L.parts }
+{
+    let term = TermView {
+        expiry: OCTOBER_17,
+        rate: Some(0),
+        rows: &SAMPLE,
+    };
+    let mut steps = Steps::<L>::open(blank);
+    let mut kept = KeptStrip::<62>::new(alloc)?;
+    let answer = term_variance_kept::<62, L>(alloc, &term, 43_200, &mut kept, &mut steps)?;
+    Ok(numbers(&answer))
+}
+
 // The level, the low end of the forward, and the ends of the strip's sum and of the variance.
 fn numbers(answer: &TermAnswer<62>) -> Option<[i128; 6]> {
     match answer {
@@ -114,6 +134,10 @@ fn sample_term_has_its_variance(rt: HostRuntime) -> Result<(), Fail> {
     assert_eq!(rt; numbers(&run), Some(SAMPLE_NUMBERS));
     let run = answer_with_one(rt.alloc(), &SAMPLE)?;
     assert_eq!(rt; numbers(&run), Some(SAMPLE_NUMBERS));
+    assert_eq!(rt;
+        kept_numbers::<Brand>(rt.alloc(), Blank::new(1))?,
+        Some(SAMPLE_NUMBERS)
+    );
     Ok(())
 }
 

@@ -1,27 +1,33 @@
 //! A term's variance, or why there is none.
 
-ghost use Rattle.std.specs.Prelude.{◌≡◌, ◌*◌, ◌<◌, ◌≤◌, pos, ◌*ℤ◌, length, IfOk};
+ghost use Rattle.std.specs.Prelude.{◌≡◌, ◌*◌, ◌≤◌, ◌⊎◌, ℕ, pos, ◌*ℤ◌, IfOk};
+ghost use Rattle.vx_num.specs.Fraction.{Fraction};
+ghost use Rattle.vx_bracket.specs.Bracket.{Bracket, IsWithinOne};
 ghost use Rattle.vx_clock.specs.declared.limits.TheConstants.{MINUTES_MAX};
 ghost use Rattle.vx_symbol.specs.Rows.{IsLawfulTerm, IsRateInRange};
-ghost use Rattle.vx_interval.specs.Ends.{IsScale};
+ghost use Rattle.vx_interval.specs.Ends.{IsScale, exact_ends};
+ghost use Rattle.vx_interval.specs.Membership.{IsMember};
 ghost use Rattle.vx_formula.specs.declared.limits.TheConstants.{RATE_UNITS, YEAR_MINUTES};
-ghost use Rattle.vx_formula.specs.Pair.{IsClosestPair};
-ghost use Rattle.vx_forward.specs.Pairs.{formula_pair};
-ghost use Rattle.vx_formula.specs.Term.{TermFacts, exponent};
-ghost use Rattle.vx_strip.specs.Entries.{strike_at};
-ghost use Rattle.vx_term.specs.Answer.{IsAnswerOfRows, IsTermAnswer, OnRun};
+ghost use Rattle.vx_formula.specs.Pair.{Pair, IsClosestPair};
+ghost use Rattle.vx_formula.specs.Term.{Term, IsTermOf, exponent};
+ghost use Rattle.vx_term.specs.Answer.{IsAnswerOfRows, IsTermAnswer, OnRun, facts_at, facts_of};
 ghost use Rattle.vx_term.specs.Exponential.{IsExpRun};
+ghost use Rattle.vx_term.specs.Holds.{AnswerHolds};
+ghost use Rattle.vx_term.specs.Meaning.{TermAnswerMeans, exponential_depth};
 ghost use Rattle.vx_term.specs.Ranges.{AreMinutesInRange};
-ghost use Rattle.vx_term.specs.Steps.{IsExponentialInRange, IsRunInRange};
+ghost use Rattle.vx_term.specs.Steps.{IsExponentialInRange, IsRunInRange, refusal_of_strip, refusal_of_sum};
+ghost use Rattle.vx_term.specs.Tight.{HasOneForward, IsForwardDecided, IsExactRun, IsExponentialTight, IsTightAnswer};
 
 use crate::answer::{TermAnswer, TermRefusal};
-use crate::steps::{Told, at_level};
+use crate::level::tell_level;
+use crate::run::{Given, run_of};
 use std::alloc::Global;
 use vx_bounds::{ExpRun, exp_signed};
 use vx_formula::limits::{RATE_UNITS, YEAR_MINUTES};
-use vx_forward::{K0Answer, Pair, closest, find_k0, forward};
 use vx_num::NoMemory;
-use vx_symbol::{StrikeRow, TermView};
+use vx_strip::{StripRefusal, select};
+use vx_sum::{SumRefusal, sum_strip};
+use vx_symbol::TermView;
 
 /// A term's variance, or the first reason why it has none: in this order no rate stands, there is no
 /// closest pair, a listed strike lies between the forward's printed ends or there is no level among the
@@ -30,6 +36,10 @@ use vx_symbol::{StrikeRow, TermView};
 /// The variance is `2*e*S - (F/K0 - 1)^2`, after the Cboe VIX white paper, in intervals that enclose
 /// it; the order of the reasons is this project's own. The term is lawful, the minutes are from 1 to
 /// 262,800, and the scale from 40 to 62. `NoMemory` may come in place of any answer.
+///
+/// A run's variance is at most 37,000 units wide, and from scale 60 on the ends of an undecided forward
+/// are at most three units of `10^-12` point apart. At rate 0, and where the pair's two prices are equal,
+/// the forward is never undecided.
 pub fn term_variance<const P: u32>(
     alloc: Global,
     term: &TermView,
@@ -38,23 +48,25 @@ pub fn term_variance<const P: u32>(
     requires scale { IsScale P }
     requires lawful { IsLawfulTerm term.now }
     requires minutes { AreMinutesInRange minutes }
-    ensures answer { let facts : TermFacts = record { rows = term.now.rows.now; rate = term.now.rate; minutes = minutes } in
-        IfOk result (IsTermAnswer P term.now.expiry facts) }
+    ensures answer { IfOk result (IsTermAnswer P term.now.expiry (facts_of term.now minutes)) }
+    ensures means { IfOk result (TermAnswerMeans P exponential_depth (facts_of term.now minutes)) }
+    ensures tight { IfOk result (IsTightAnswer P) }
+    ensures decided { (t : Term) → IsTermOf (facts_of term.now minutes) t → HasOneForward t
+        → IfOk result (IsForwardDecided P) }
+    ensures exact { IfOk result (OnRun P (IsExactRun P)) }
     ensures in_range { IfOk result (OnRun P (IsRunInRange P)) }
 {
     match term.rate {
         None => Ok(TermAnswer::Refused(TermRefusal::NoRate)),
-        Some(rate) => {
-            let exp = exponential::<P>(rate, minutes);
-            variance_with(alloc, term, minutes, rate, exp)
-        }
+        Some(rate) => answer_of(alloc, term, given_at(rate, minutes)),
     }
 }
 
 /// The same with a rate and an exponential that are given: all that [`term_variance`] does after these,
 /// in the same order, so it never answers that no rate stands.
 ///
-/// The exponential is from 0 to 5/4.
+/// The exponential is from 0 to 5/4. The answer holds of every value in its interval, and so over every
+/// bracket that the interval encloses.
 pub fn variance_with<const P: u32>(
     alloc: Global,
     term: &TermView,
@@ -67,71 +79,78 @@ pub fn variance_with<const P: u32>(
     requires exponential { IsExponentialInRange P exp.value }
     ensures answer { IfOk result
         (IsAnswerOfRows P term.now.expiry minutes rate exp.entry term.now.rows.now) }
+    ensures holds { IfOk result (AnswerHolds P term.now.rows.now (IsMember P exp.entry.value)) }
+    ensures means { (depth : ℕ) → IsWithinOne (exponent rate minutes)
+        → ((e : Fraction) → Bracket depth (exponent rate minutes) e → IsMember P exp.entry.value e)
+        → IfOk result (TermAnswerMeans P depth (facts_at term.now minutes rate)) }
+    ensures tight { IsExponentialTight P exp.entry.value → IfOk result (IsTightAnswer P) }
+    ensures decided { (pair : Pair) → IsClosestPair term.now.rows.now pair
+        → (pair.d ≡ pos 0) ⊎ (exp.entry.value ≡ exact_ends P (pos 1)) → IfOk result (IsForwardDecided P) }
     ensures in_range { IfOk result (OnRun P (IsRunInRange P)) }
 {
-    match closest(term) {
-        None => Ok(TermAnswer::Refused(TermRefusal::NoPair)),
-        Some(pair) => at_pair(alloc, term, minutes, rate, exp, pair),
-    }
+    answer_of(alloc, term, Given { minutes, rate, exp })
 }
 
-/// The answer once the closest pair is known.
-fn at_pair<const P: u32>(
+/// The answer for a term where a rate and its exponential are given.
+fn answer_of<const P: u32>(
     alloc: Global,
     term: &TermView,
-    minutes: u32,
-    rate: i32,
-    exp: ExpRun<P>,
-    pair: Pair,
+    given: Given<P>,
 ) -> Result<TermAnswer<P>, NoMemory>
     requires lawful { IsLawfulTerm term.now }
-    requires exponential { IsExponentialInRange P exp.value }
-    requires pair { IsClosestPair term.now.rows.now (formula_pair pair) }
+    requires exponential { IsExponentialInRange P given.exp.value }
     ensures answer { IfOk result
-        (IsAnswerOfRows P term.now.expiry minutes rate exp.entry term.now.rows.now) }
+        (IsAnswerOfRows P term.now.expiry given.entry.minutes given.entry.rate given.entry.exp term.now.rows.now) }
     ensures in_range { IfOk result (OnRun P (IsRunInRange P)) }
 {
-    let expiry = term.expiry;
-    let f = forward(&pair, &exp.value);
-    match find_k0(term, &f) {
-        K0Answer::At(place) => {
-            let k0 = strike_at(term.rows, place);
-            let told = Told {
-                expiry,
-                minutes,
-                rate,
-                exp,
-                pair,
-                f,
-                k0,
-            };
-            at_level(alloc, term, place, told)
-        }
-        K0Answer::NoStrikeBelow => Ok(TermAnswer::Refused(TermRefusal::NoStrikeBelow)),
-        K0Answer::NoStrikeAbove(_) => Ok(TermAnswer::Refused(TermRefusal::NoStrikeAbove)),
-        K0Answer::Straddle { strike, lo, hi } => {
-            Ok(TermAnswer::UndecidedForward { strike, lo, hi })
-        }
+    let level = match tell_level(term, &given.exp.value) {
+        Ok(level) => level,
+        Err(answer) => return Ok(answer),
+    };
+    let strip = match select(alloc, term, level.place) {
+        Ok(strip) => strip,
+        Err(refusal) => return Ok(TermAnswer::Refused(refusal_of_strip(refusal)?)),
+    };
+    match sum_strip::<P>(alloc, &strip) {
+        Ok(sum) => Ok(TermAnswer::Run(run_of(term, given, level, strip, sum))),
+        Err(refusal) => Ok(TermAnswer::Refused(refusal_of_sum(refusal)?)),
     }
 }
 
-/// The strike of the row at a place.
-fn strike_at(rows: &[StrikeRow], place: usize) -> u32
-    requires { place < length rows.now }
-    ensures { result ≡ strike_at rows.now place }
+/// A term's refusal where its strip is refused.
+pub fn refusal_of_strip(refusal: StripRefusal) -> Result<TermRefusal, NoMemory>
+    ensures { result ≡ refusal_of_strip refusal }
 {
-    rows[place].strike
+    match refusal {
+        StripRefusal::NoMemory => Err(NoMemory),
+        StripRefusal::NoMoney => Ok(TermRefusal::NoMoney),
+        StripRefusal::NoPut => Ok(TermRefusal::NoPut),
+        StripRefusal::NoCall => Ok(TermRefusal::NoCall),
+    }
 }
 
-/// The exponential of a rate over so many minutes.
-fn exponential<const P: u32>(rate: i32, minutes: u32) -> ExpRun<P>
+/// A term's refusal where the sum of its strip is refused.
+pub fn refusal_of_sum(refusal: SumRefusal) -> Result<TermRefusal, NoMemory>
+    ensures { result ≡ refusal_of_sum refusal }
+{
+    match refusal {
+        SumRefusal::NoMemory => Err(NoMemory),
+        SumRefusal::StripTooLarge { upper } => Ok(TermRefusal::StripTooLarge { upper }),
+    }
+}
+
+/// What is given of a term at a rate: the minutes, the rate and its exponential.
+pub fn given_at<const P: u32>(rate: i32, minutes: u32) -> Given<P>
     requires scale { IsScale P }
     requires rate { IsRateInRange rate }
     requires minutes { minutes ≤ MINUTES_MAX }
-    ensures run { IsExpRun P (exponent rate minutes) result }
-    ensures in_range { IsExponentialInRange P result.value }
+    ensures minutes { result.minutes ≡ minutes }
+    ensures rate { result.rate ≡ rate }
+    ensures run { IsExpRun P (exponent rate minutes) result.exp }
+    ensures in_range { IsExponentialInRange P result.exp.value }
 {
-    exp_signed::<P>(exponent_top(rate, minutes), exponent_bottom())
+    let exp = exp_signed::<P>(exponent_top(rate, minutes), exponent_bottom());
+    Given { minutes, rate, exp }
 }
 
 /// A rate times minutes, in units of `10^-8` a year times a minute.

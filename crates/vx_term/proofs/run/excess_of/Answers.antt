@@ -2,7 +2,7 @@ use Rattle.std.proofs.Common.{◌∙◌, ◌≤◌, pos, arith}
 use Rattle.vx_interval.proofs.Ranges.{cast_is}
 use Rattle.vx_term.proofs.Weights.{given}
 use Rattle.vx_term.proofs.Variances.{excess_range, excess_encloses, excess_given}
-use Rattle.vx_term.proofs.steps.excess_of.Goals as goal
+use Rattle.vx_term.proofs.run.excess_of.Goals as goal
 
 pub returns-clause-ends : goal.returns-clause-ends
 returns-clause-ends g c =
@@ -18,4 +18,4 @@ returns-clause-encloses g c =
 pub returns-clause-in_range : goal.returns-clause-in_range
 returns-clause-in_range g c =
     let least : 100000 ≤ c.args.k0 = c.requires.level.0 in
-    rw (returns-clause-ends g c) (excess_range g.row.P c.args.k0 c.args.f.now c.requires.at_least c.lo-low.ensures.interval.ordered c.requires.at_most_twice (omega arith))
+    rw (returns-clause-ends g c) (excess_range g.row.P c.args.k0 c.args.f.now c.requires.at_least c.requires.interval.ordered c.requires.at_most_twice (omega arith))
