@@ -1,5 +1,5 @@
 -- Lawful events are in range, and so are those of a part of them.
-use Rattle.std.proofs.Common.{List, [], ◌∷◌, ◌++◌, sym, subst, inl, inr}
+use Rattle.std.proofs.Common.{ℕ, zero, suc, take, List, [], ◌∷◌, ◌++◌, sym, subst, inl, inr}
 use Rattle.std.proofs.lemmas.Bool.{cases_Bool, cond-true, cond-false}
 use Rattle.vx_symbol.specs.declared.symbols.Symbol.{Symbol}
 use Rattle.vx_feed.specs.declared.events.Event.{Event}
@@ -59,3 +59,13 @@ before_after before (d ∷ events) h =
 -- the events before the opening are lawful where all are
 pub before_is_lawful : (events : List Event) → AreLawful events → AreLawful (before_opening events)
 before_is_lawful events h = before_after [] events h
+
+take_after : (n : ℕ) (before events : List Event) → AreLawfulAfter before events → AreLawfulAfter before (take n events)
+take_after zero before [] h = tt
+take_after (suc n) before [] h = tt
+take_after zero before (d ∷ events) h = tt
+take_after (suc n) before (d ∷ events) h = (h.0, take_after n (before ++ d ∷ []) events h.1)
+
+-- the first events of a lawful list are lawful
+pub take_is_lawful : (n : ℕ) (events : List Event) → AreLawful events → AreLawful (take n events)
+take_is_lawful n events h = take_after n [] events h

@@ -3,3 +3,7 @@ pub mod TermsAreOne
 -- and so is its answer
 pub mod FigureIsOne
 pub mod TickAnswerIsOne
+pub mod Places
+pub mod Accepted
+pub mod LawfulTicks
+pub mod Completeness

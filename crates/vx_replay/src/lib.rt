@@ -1,6 +1,6 @@
 //! The answer to a tick.
 //!
-//! Today this crate has the types, the definition of the answer, and that there is at most one; the
+//! Today this crate has the types, the definition of the answer, and the laws about it; the
 //! calls come with the calculator.
 #![tactic(auto)]
 
@@ -8,4 +8,4 @@ mod answer;
 mod laws;
 
 pub use answer::{Reason, TickAnswer, Which};
-pub use laws::tick_answer_is_one;
+pub use laws::{clear_tick_is_answered, tick_answer_is_lawful, tick_answer_is_one};

@@ -1,3 +1,5 @@
 pub mod Figures
 pub mod Openings
+pub mod Lawful
+pub mod Complete
 pub mod Laws

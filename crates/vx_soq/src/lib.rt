@@ -1,6 +1,6 @@
 //! The opening figure.
 //!
-//! Today this crate has the types, the definition of the answer, and that there is at most one; the
+//! Today this crate has the types, the definition of the answer, and the laws about it; the
 //! call comes with the calculator.
 #![tactic(auto)]
 
@@ -8,4 +8,4 @@ mod answer;
 mod laws;
 
 pub use answer::{Figure, OpeningAnswer, SoqReason};
-pub use laws::opening_answer_is_one;
+pub use laws::{clear_opening_is_answered, opening_answer_is_lawful, opening_answer_is_one};

@@ -1,0 +1,10 @@
+//! What the calculator certifies is accepted: each test of a certificate is met by the numbers of a run.
+//!
+//! Each function here does nothing: its clauses are the laws.
+#![tactic(auto)]
+
+mod laws;
+
+pub use laws::{
+    certified_term_is_true, facts_are_lawful, picked_minutes_are_in_range, terms_are_picked_or_none,
+};
