@@ -15,7 +15,7 @@ returns-in-Some-clause-at_opening c = λ events h.
     let term = c.in-Some.term.now in
     let at = slice_get_read book.expiries.items (length book.expiries.items) i x refl c.requires.within c.index-expiry.ensures in
     let kept : slice_get book.opening.items i ≡ Some term = ap (λ l. slice_get l i) (sym c.deref.ensures.value)
-        ∙ slice_get_read c.deref.result.now (length c.deref.result.now) i term refl c.in-Some.ensures.lookup.3.0 c.in-Some.ensures.lookup.1 in
+    ∙ slice_get_read c.deref.result.now (length c.deref.result.now) i term refl c.in-Some.ensures.lookup.3.0 c.in-Some.ensures.lookup.1 in
     let shows = shown_by book.opening.items i term (opening_rate x events) (opening_rows x events) kept (opening_shown book events i x h c.requires.opened at) in
     record { rate = shows.rate_is; rows = c.rows.ensures ∙ shows.rows_are }
 
@@ -28,7 +28,7 @@ returns-in-Some-clause-lawful c =
     let events = (c.requires.stands).0 in
     let at = slice_get_read book.expiries.items (length book.expiries.items) i x refl c.requires.within c.index-expiry.ensures in
     let kept : slice_get book.opening.items i ≡ Some term = ap (λ l. slice_get l i) (sym c.deref.ensures.value)
-        ∙ slice_get_read c.deref.result.now (length c.deref.result.now) i term refl c.in-Some.ensures.lookup.3.0 c.in-Some.ensures.lookup.1 in
+    ∙ slice_get_read c.deref.result.now (length c.deref.result.now) i term refl c.in-Some.ensures.lookup.3.0 c.in-Some.ensures.lookup.1 in
     let shows = shown_by book.opening.items i term (opening_rate x events) (opening_rows x events) kept (opening_shown book events i x (c.requires.stands).1 c.requires.opened at) in
     record { rate = shows.rate_in_range; rows = subst AreLawfulRows (sym c.rows.ensures) shows.rows_lawful }
 
