@@ -1,0 +1,51 @@
+-- The exits of a run.
+use Rattle.std.proofs.Common.{◌≡◌, ◌≢◌, ap, refl, true, ◌≤◌, Option, Err}
+use Rattle.vx_desk.specs.declared.device.Slot.{Slot}
+use Rattle.vx_desk.specs.declared.device.Slot.TheVariants.{Feed, Side, Out, Certs}
+use Rattle.vx_reading.specs.Failures.{Calls}
+use Rattle.vx_reading.specs.Stops.{stop_calls}
+use Rattle.vx_reading.specs.declared.stop.FeedStop.{FeedStop}
+use Rattle.vx_reading.specs.declared.stop.FeedStop.TheVariants as stop
+use Rattle.vx_drivers.specs.declared.exit.Exit.{Exit}
+use Rattle.vx_drivers.specs.declared.exit.Exit.TheVariants.{WriteFault}
+use Rattle.vx_drivers.specs.Exits.{exit_calls, exit_of_stop, is_cut}
+
+-- the stop of a feed and its exit name the same failed calls
+pub stop_named : (why : FeedStop) → exit_calls (exit_of_stop why) ≡ stop_calls why
+stop_named (stop.BadLine line cause) = refl
+stop_named stop.Device = refl
+stop_named stop.NoMemory = refl
+
+-- a failed write cuts a run off
+pub write_cuts : (slot : Slot) (exit : Exit) → exit ≡ WriteFault slot → is_cut exit ≡ true
+write_cuts slot exit is = ap is_cut is
+
+pub out_not_feed : Out ≢ Feed
+out_not_feed e = cc
+
+pub feed_not_out : Feed ≢ Out
+feed_not_out e = cc
+
+pub side_not_feed : Side ≢ Feed
+side_not_feed e = cc
+
+pub side_not_out : Side ≢ Out
+side_not_out e = cc
+
+pub feed_not_side : (slot : Slot) → slot ≡ Side → Feed ≢ slot
+feed_not_side slot is e = cc
+
+pub out_not_side : (slot : Slot) → slot ≡ Side → Out ≢ slot
+out_not_side slot is e = cc
+
+pub certs_not_feed : Certs ≢ Feed
+certs_not_feed e = cc
+
+pub certs_not_out : Certs ≢ Out
+certs_not_out e = cc
+
+pub out_not_certs : Out ≢ Certs
+out_not_certs e = cc
+
+pub feed_not_certs : Feed ≢ Certs
+feed_not_certs e = cc

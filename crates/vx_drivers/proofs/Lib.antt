@@ -1,0 +1,6 @@
+mod AlongLemmas
+mod CertificateLemmas
+mod ExitLemmas
+mod FailureLemmas
+mod RunLemmas
+mod SendingLemmas

@@ -1,0 +1,186 @@
+-- The steps of a run that answers certificates.
+use Rattle.std.specs.Prelude.{◌≡◌, ◌⊎◌, ℕ, ◌+◌, ◌-◌, ◌==◌, ◌≤◌, Bool, true, false, List, [], ◌∷◌, ◌++◌, length, Option, Some, None, IfSome, Result, Ok, Err, if◌then◌else◌}
+use Rattle.std.specs.Option.{option_map}
+use Rattle.vx_lines.specs.TextLines.{TextLines, at_end, at_most, ended, lines_of, lines_then}
+use Rattle.vx_desk.specs.declared.device.Slot.{Slot}
+use Rattle.vx_desk.specs.declared.device.Slot.TheVariants.{Side, Out}
+use Rattle.vx_desk.specs.Told.{Told}
+use Rattle.vx_desk.specs.Lines.{ReaderState}
+use Rattle.vx_desk.specs.Coming.{coming}
+use Rattle.vx_feed.specs.declared.events.Event.{Event}
+use Rattle.vx_feed.specs.Feed.{Reading}
+use Rattle.vx_reading.specs.declared.stop.FeedCause.{FeedCause}
+use Rattle.vx_reading.specs.FeedReading.{IsAt, feed_told}
+use Rattle.vx_reading.specs.Stops.{bad_cause}
+use Rattle.vx_drivers.specs.declared.check_run.CheckRun.{CheckRun}
+use Rattle.vx_drivers.specs.declared.exit.Exit.{Exit}
+use Rattle.vx_drivers.specs.declared.exit.Exit.TheVariants.{Done, SaidNo, BadFeed}
+use Rattle.vx_drivers.specs.declared.limits.TheConstants.{CERT_LINES_MAX, CERT_LINE_LEN_MAX}
+use Rattle.vx_drivers.specs.Along.{Along}
+use Rattle.vx_drivers.specs.Answers.{Answer, answer_of, answer_text, answers_text, count_no, count_yes}
+use Rattle.vx_drivers.specs.CertificateRun.{Rules, Stand, Answers, RunsBy, Stops, answered, start}
+use Rattle.vx_drivers.specs.Exits.{is_cut}
+use Rattle.vx_drivers.specs.Sending.{CutsOff, Sent, Text}
+
+-- what the certificates are, where their desk tells them
+abbrev pub certs_told : (Slot → Told) → Option TextLines
+certs_told told = option_map (λ text. at_most CERT_LINES_MAX (lines_of CERT_LINE_LEN_MAX text)) (told Side).left
+
+-- what a line is read as: a certificate, or the word for why it is none
+abbrev pub read_as : {C : Type 0} → Option C → Text → Result C Text
+read_as (Some c) word = Ok c
+read_as None word = Err word
+
+-- how many lines a run has answered
+abbrev pub answered_lines : {B : Type 0} → CheckRun B → ℕ
+answered_lines run = run.yes + run.no
+
+-- ---- one line
+
+-- a run between two lines
+pub record Between {B : Type 0} (StandsFor : B → List Event → Type 0) (feed : Option Reading) (stand : Stand) (run : CheckRun B) (told : Slot → Told) : Type 0 where
+  pub events : List Event
+  pub at : IsAt StandsFor feed events run.feed told
+  pub reached : run.reached ≡ stand.reached
+  pub not_past : length events ≤ stand.reached
+  pub yes : run.yes ≡ count_yes stand.answers
+  pub no : run.no ≡ count_no stand.answers
+
+abbrev pub IsBetween : {B : Type 0} → (B → List Event → Type 0) → CheckRun B → (Slot → Told) → Type 0
+IsBetween StandsFor run told = (feed : Option Reading) × (stand : Stand) × Between StandsFor feed stand run told
+
+-- a line has this answer, by which the run stands at the next line
+pub record IsAnswered {C B : Type 0} (rules : Rules C) (StandsFor : B → List Event → Type 0) (feed : Option Reading) (old : Stand) (line : List ℕ) (answer : Answer) (run : CheckRun B) (told : Slot → Told) : Type 0 where
+  pub reached : ℕ
+  pub answers : IfSome feed (λ f. Answers rules f old line (answered old answer reached))
+  pub events : List Event
+  pub at : IsAt StandsFor feed events run.feed told
+  pub reached_is : run.reached ≡ reached
+  pub not_past : length events ≤ reached
+
+-- the feed's bad line ends the run at a line
+pub record EndsForFeed {C : Type 0} (rules : Rules C) (feed : Option Reading) (stand : Stand) (line : List ℕ) (exit : Exit) : Type 0 where
+  pub number : ℕ
+  pub why : FeedCause
+  pub exit_is : exit ≡ BadFeed number why
+  pub bad : IfSome feed (λ f. f.bad ≡ Some (record { line = number; cause = bad_cause why }))
+  pub stops : IfSome feed (λ f. Stops rules f stand line)
+
+-- the run ends at a line before it is answered: it is cut off, or the feed ends it
+abbrev pub EndsBefore : {C : Type 0} → Rules C → Option Reading → Stand → List ℕ → Exit → Type 0
+EndsBefore rules feed stand line exit = (is_cut exit ≡ true) ⊎ EndsForFeed rules feed stand line exit
+
+-- what comes of a line
+abbrev pub ComesOf : {C B : Type 0} → Rules C → (B → List Event → Type 0) → Option Reading → Stand → List ℕ → Text → CheckRun B → (Slot → Told) → Result Bool Exit → Type 0
+ComesOf rules StandsFor feed stand line words run told (Ok holds) = IsAnswered rules StandsFor feed stand line (answer_of holds words) run told
+ComesOf rules StandsFor feed stand line words run told (Err exit) = EndsBefore rules feed stand line exit
+
+-- the line of the answer that comes next
+abbrev pub next_text : Stand → Answer → Text
+next_text stand answer = answer_text (length stand.answers + 1) answer
+
+-- the answer to a line was sent
+pub record SendsAnswer {C B : Type 0} (rules : Rules C) (StandsFor : B → List Event → Type 0) (feed : Option Reading) (stand : Stand) (line : List ℕ) (run : CheckRun B) (before after : Slot → Told) : Type 0 where
+  pub answer : Answer
+  pub reached : ℕ
+  pub answers : IfSome feed (λ f. Answers rules f stand line (answered stand answer reached))
+  pub between : Between StandsFor feed (answered stand answer reached) run after
+  pub sent : Sent (next_text stand answer) (before Out) (after Out)
+
+-- a write of it failed
+pub record CutsAnswer {C : Type 0} (rules : Rules C) (feed : Option Reading) (stand : Stand) (line : List ℕ) (before after : Slot → Told) (exit : Exit) : Type 0 where
+  pub answer : Answer
+  pub reached : ℕ
+  pub answers : IfSome feed (λ f. Answers rules f stand line (answered stand answer reached))
+  pub cut : CutsOff Out (next_text stand answer) (before Out) (after Out) exit
+
+-- the run ends at a line, with nothing sent for it, or with a part of its answer
+abbrev pub EndsAtLine : {C : Type 0} → Rules C → Option Reading → Stand → List ℕ → (Slot → Told) → (Slot → Told) → Exit → Type 0
+EndsAtLine rules feed stand line before after exit =
+    (EndsBefore rules feed stand line exit × (after Out ≡ before Out)) ⊎ CutsAnswer rules feed stand line before after exit
+
+abbrev pub AnswersLine : {C B : Type 0} → Rules C → (B → List Event → Type 0) → Option Reading → Stand → List ℕ → CheckRun B → (Slot → Told) → (Slot → Told) → Result Unit Exit → Type 0
+AnswersLine rules StandsFor feed stand line run before after (Ok _) = SendsAnswer rules StandsFor feed stand line run before after
+AnswersLine rules StandsFor feed stand line run before after (Err exit) = EndsAtLine rules feed stand line before after exit
+
+-- ---- from the start of the run
+
+-- the first lines are answered and their answers sent, and these are to come
+pub record IsUnderWay {C B : Type 0} (rules : Rules C) (StandsFor : B → List Event → Type 0) (feed : Option Reading) (certs : Option TextLines) (before : Told) (run : CheckRun B) (now : Slot → Told) (rest : Option TextLines) : Type 0 where
+  pub stand : Stand
+  pub lines : List (List ℕ)
+  pub are_first : certs ≡ option_map (lines_then lines) rest
+  pub steps : IfSome feed (λ f. Along (Answers rules f) start lines stand)
+  pub between : Between StandsFor feed stand run now
+  pub sent : Sent (answers_text stand.answers) before (now Out)
+
+-- a fact about a feed and certificates that are told
+abbrev pub IfBoth : Option Reading → Option TextLines → (Reading → TextLines → Type 0) → Type 0
+IfBoth feed certs P = IfSome feed (λ f. IfSome certs (λ c. P f c))
+
+-- the run ended with this exit, and sent what it gives
+pub record HasEnded {C : Type 0} (rules : Rules C) (feed : Option Reading) (certs : Option TextLines) (before after : Told) (exit : Exit) : Type 0 where
+  pub text : Text
+  pub sent : Sent text before after
+  pub runs : IfBoth feed certs (λ f c. RunsBy rules f c text exit)
+
+-- the lines that are to come, as many as there may be after so many
+abbrev pub allowed : ℕ → ReaderState → (Slot → Told) → Option TextLines
+allowed count reader told = option_map (at_most (CERT_LINES_MAX - count)) (coming reader told)
+
+-- all lines are answered and their answers sent
+abbrev pub IsThrough : {C B : Type 0} → Rules C → (B → List Event → Type 0) → Option Reading → Option TextLines → Told → CheckRun B → (Slot → Told) → Type 0
+IsThrough rules StandsFor feed certs before run now =
+    (rest : Option TextLines) × IsUnderWay rules StandsFor feed certs before run now rest × IfSome rest (λ lines. lines ≡ ended at_end)
+
+-- one line more is answered, or none is left, or the run ended
+abbrev pub GoesOn : {C B : Type 0} → Rules C → (B → List Event → Type 0) → Option Reading → Option TextLines → Told → CheckRun B → (Slot → Told) → Option TextLines → Result Bool Exit → Type 0
+GoesOn rules StandsFor feed certs before run now rest (Ok true) = IsUnderWay rules StandsFor feed certs before run now rest
+GoesOn rules StandsFor feed certs before run now rest (Ok false) = IsThrough rules StandsFor feed certs before run now
+GoesOn rules StandsFor feed certs before run now rest (Err exit) = HasEnded rules feed certs before (now Out) exit
+
+-- all lines are answered, or the run ended
+abbrev pub AnswersAll : {C B : Type 0} → Rules C → (B → List Event → Type 0) → Option Reading → Option TextLines → Told → CheckRun B → (Slot → Told) → Result Unit Exit → Type 0
+AnswersAll rules StandsFor feed certs before run now (Ok _) = IsThrough rules StandsFor feed certs before run now
+AnswersAll rules StandsFor feed certs before run now (Err exit) = HasEnded rules feed certs before (now Out) exit
+
+-- the exit of a run that read and sent all, by how many lines got a no
+abbrev pub said_exit : ℕ → Exit
+said_exit count = if count == 0 then Done else SaidNo count
+
+-- ---- the clauses of a run
+
+-- nothing was read
+pub record IsNew {B : Type 0} (StandsFor : B → List Event → Type 0) (run : CheckRun B) : Type 0 where
+  pub feed : (told : Slot → Told) → IsAt StandsFor (feed_told told) [] run.feed told
+  pub reached : run.reached ≡ 0
+  pub yes : run.yes ≡ 0
+  pub no : run.no ≡ 0
+
+-- a run that may go on
+abbrev pub MayGoOn : {C B : Type 0} → Rules C → (B → List Event → Type 0) → CheckRun B → (Slot → Told) → Option TextLines → Type 0
+MayGoOn rules StandsFor run told rest =
+    (feed : Option Reading) × (certs : Option TextLines) × (before : Told) × IsUnderWay rules StandsFor feed certs before run told rest
+
+-- the next line is answered
+abbrev pub GoesOneOn : {C B : Type 0} → Rules C → (B → List Event → Type 0) → CheckRun B → (Slot → Told) → Option TextLines → CheckRun B → (Slot → Told) → Option TextLines → Result Bool Exit → Type 0
+GoesOneOn rules StandsFor old told rest new now more result =
+    (feed : Option Reading) (certs : Option TextLines) (before : Told) → IsUnderWay rules StandsFor feed certs before old told rest
+    → GoesOn rules StandsFor feed certs before new now more result
+
+-- all lines are answered
+abbrev pub GoesToEnd : {C B : Type 0} → Rules C → (B → List Event → Type 0) → CheckRun B → (Slot → Told) → Option TextLines → CheckRun B → (Slot → Told) → Result Unit Exit → Type 0
+GoesToEnd rules StandsFor old told rest new now result =
+    (feed : Option Reading) (certs : Option TextLines) (before : Told) → IsUnderWay rules StandsFor feed certs before old told rest
+    → AnswersAll rules StandsFor feed certs before new now result
+
+-- a run whose lines are all answered
+abbrev pub MayEnd : {C B : Type 0} → Rules C → (B → List Event → Type 0) → CheckRun B → (Slot → Told) → Type 0
+MayEnd rules StandsFor run told =
+    (feed : Option Reading) × (certs : Option TextLines) × (before : Told) × IsThrough rules StandsFor feed certs before run told
+
+-- the run ends behind the last line
+abbrev pub EndsRun : {C B : Type 0} → Rules C → (B → List Event → Type 0) → CheckRun B → (Slot → Told) → (Slot → Told) → Exit → Type 0
+EndsRun rules StandsFor run told now exit =
+    (feed : Option Reading) (certs : Option TextLines) (before : Told) → IsThrough rules StandsFor feed certs before run told
+    → HasEnded rules feed certs before (now Out) exit

@@ -1,0 +1,4 @@
+mod AheadLemmas
+pub mod FailureLemmas
+pub mod FeedLemmas
+mod TakeLemmas

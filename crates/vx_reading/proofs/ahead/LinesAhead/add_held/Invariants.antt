@@ -1,0 +1,13 @@
+use Rattle.std.proofs.Common.{◌≡◌, ◌<◌, List, length}
+use Rattle.vx_feed.specs.declared.events.Event.{Event}
+use Rattle.vx_reading.specs.declared.ahead.Rest.TheVariants.{More}
+use Rattle.vx_reading.specs.LinesAhead.{IsAhead, block_says}
+use Rattle.vx_reading.proofs.ahead.LinesAhead.add_held.Given as goal
+
+abbrev pub invariant-loop : goal.invariant-loop
+invariant-loop g l = record {
+  ahead : IsAhead l.self;
+  some : l.self.rest ≡ More → 0 < length l.self.block;
+  desk : l.desk ≡ l.initial.desk;
+  says : (events : List Event) → block_says l.self (g.D.Desk.told l.initial.desk) events ≡ block_says l.initial.self (g.D.Desk.told l.initial.desk) events;
+}

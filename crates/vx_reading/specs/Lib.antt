@@ -1,0 +1,4 @@
+pub mod Failures
+pub mod Stops
+pub mod LinesAhead
+pub mod FeedReading

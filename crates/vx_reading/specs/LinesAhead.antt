@@ -1,0 +1,107 @@
+-- The lines of a feed, some of them read ahead and split into fields, to be taken one after another.
+use Rattle.std.specs.Prelude.{◌≡◌, ℕ, ◌<◌, Bool, true, false, not, ◌||◌, nat_lt, List, [], ◌∷◌, ◌++◌, length, map, drop, Option, Some, None, IfSome, Result, Ok, Err}
+use Rattle.std.specs.Option.{option_map}
+use Rattle.vx_lines.specs.TextLines.{TextLines, at_end}
+use Rattle.vx_desk.specs.declared.device.Slot.{Slot}
+use Rattle.vx_desk.specs.declared.device.Slot.TheVariants.{Feed}
+use Rattle.vx_desk.specs.Told.{Told}
+use Rattle.vx_fields.specs.Lines.{fields_of_line}
+use Rattle.vx_feed.specs.declared.events.Event.{Event}
+use Rattle.vx_feed.specs.declared.faults.FeedFault.{FeedFault}
+use Rattle.vx_feed.specs.declared.limits.TheConstants.{LINE_LEN_MAX}
+use Rattle.vx_feed.specs.Feed.{BadCause, Reading, next_event, with_cause, stopped_at, reading_after}
+use Rattle.vx_feed.specs.Order.{IsLawfulNext}
+use Rattle.vx_reading.specs.declared.ahead.LinesAhead.{LinesAhead}
+use Rattle.vx_reading.specs.declared.ahead.Rest.{Rest}
+use Rattle.vx_reading.specs.declared.ahead.Rest.TheVariants.{More, End, Bad}
+use Rattle.vx_reading.specs.declared.stop.FeedCause.TheVariants as cause
+use Rattle.vx_reading.specs.declared.stop.FeedStop.{FeedStop}
+use Rattle.vx_reading.specs.declared.stop.FeedStop.TheVariants.{BadLine, Device, NoMemory}
+use Rattle.vx_desk.specs.Lines.{holds_line}
+use Rattle.vx_desk.specs.Coming.{coming}
+use Rattle.vx_feed.specs.Feed.{reading_at_end, reading_from}
+use Rattle.vx_reading.specs.Stops.{IsCause, bad_cause}
+
+-- where the lines that were split are followed by a bad one, it has a cause
+abbrev pub HasCause : Rest → Type 0
+HasCause (Bad cause) = IsCause cause
+HasCause _ = Unit {0}
+
+-- it reads the feed, and may read on where more can come
+pub record IsAhead (ahead : LinesAhead) : Type 0 where
+  pub slot : ahead.lines.slot ≡ Feed
+  pub limit : ahead.lines.limit ≡ LINE_LEN_MAX
+  pub may_read : ahead.rest ≡ More → ahead.lines.is_ended ≡ false
+  pub rest : HasCause ahead.rest
+
+-- nothing was read
+pub record IsFreshAhead (ahead : LinesAhead) : Type 0 where
+  pub is_ahead : IsAhead ahead
+  pub nothing : ahead.lines.waiting ≡ []
+  pub no_line : ahead.table ≡ []
+  pub more : ahead.rest ≡ More
+
+-- the next line was split, or it is known what comes in its place
+abbrev pub HasNext : LinesAhead → Type 0
+HasNext ahead = ahead.rest ≡ More → ahead.taken < length ahead.table
+
+abbrev pub is_more : Rest → Bool
+is_more More = true
+is_more _ = false
+
+-- a line is in hand, or the fault of one: it was split, or what comes in its place is known, or the reader holds it
+abbrev pub is_in_hand : LinesAhead → Bool
+is_in_hand ahead = nat_lt ahead.taken (length ahead.table) || not (is_more ahead.rest) || holds_line ahead.lines
+
+-- what comes after the lines that were split says, with these lines not yet looked at
+abbrev pub rest_says : Rest → TextLines → List Event → Reading
+rest_says More text before = reading_from before text.lines text.ending
+rest_says End text before = reading_at_end before at_end
+rest_says (Bad cause) text before = stopped_at before (bad_cause cause)
+
+-- what lines say that were split into their fields, by what comes after them
+abbrev pub fields_say : (List Event → Reading) → List (List (List ℕ)) → List Event → Reading
+fields_say more [] before = more before
+fields_say more (fields ∷ lines) before = reading_after (fields_say more lines) before (with_cause (next_event before fields))
+
+-- what a block of lines and the rest say after the events before them, where the lines to come are told
+abbrev pub block_says : LinesAhead → (Slot → Told) → List Event → Option Reading
+block_says ahead told before =
+    option_map (λ text. fields_say (rest_says ahead.rest text) (map fields_of_line ahead.block) before) (coming ahead.lines told)
+
+-- what the lines that were not yet taken and the rest say after the events before them
+abbrev pub ahead_says : LinesAhead → (Slot → Told) → List Event → Option Reading
+ahead_says ahead told before =
+    option_map (λ text. fields_say (rest_says ahead.rest text) (drop ahead.taken ahead.table) before) (coming ahead.lines told)
+
+-- a line is added to a block, or it has a fault and the block stops before it
+abbrev pub Adds : List ℕ → Option FeedFault → LinesAhead → LinesAhead → Type 0
+Adds line None old new = (new.block ≡ old.block ++ line ∷ []) × (new.rest ≡ old.rest)
+Adds line (Some fault) old new = (new.block ≡ old.block) × (new.rest ≡ Bad (cause.Event fault))
+
+-- the stop names no line
+abbrev pub IsNoLine : FeedStop → Type 0
+IsNoLine (BadLine line cause) = ⊥
+IsNoLine _ = Unit {0}
+
+-- the stop is no fault of the device
+abbrev pub IsNoFault : FeedStop → Type 0
+IsNoFault Device = ⊥
+IsNoFault _ = Unit {0}
+
+-- the lawful next event that a line says, or the line by its number with why it is bad; want of memory says nothing
+abbrev pub SaysEvent : Result Event BadCause → List Event → ℕ → Result (Option Event) FeedStop → Type 0
+SaysEvent said events number (Ok (Some e)) = (said ≡ Ok e) × IsLawfulNext events e
+SaysEvent said events number (Ok None) = ⊥
+SaysEvent said events number (Err (BadLine line why)) = (line ≡ number) × IsCause why × (said ≡ Err (bad_cause why))
+SaysEvent said events number (Err NoMemory) = Unit {0}
+SaysEvent said events number (Err Device) = ⊥
+
+-- what a feed says after these events is told by the next line's event and what comes after it, by the end of
+-- the feed, or by the bad line of this number; want of memory says nothing
+abbrev pub TakesNext : Option Reading → List Event → (List Event → Option Reading) → ℕ → Result (Option Event) FeedStop → Type 0
+TakesNext whole events more number (Ok (Some e)) = IsLawfulNext events e × (whole ≡ more (events ++ e ∷ []))
+TakesNext whole events more number (Ok None) = (whole ≡ more events) × IfSome whole (λ feed. feed ≡ reading_at_end events at_end)
+TakesNext whole events more number (Err (BadLine line why)) = (line ≡ number) × IsCause why × IfSome whole (λ feed. feed ≡ stopped_at events (bad_cause why))
+TakesNext whole events more number (Err NoMemory) = Unit {0}
+TakesNext whole events more number (Err Device) = ⊥

@@ -1,0 +1,21 @@
+//! What takes up the events of a feed.
+
+ghost use Rattle.std.specs.Prelude.{List, [], ◌∷◌, ◌++◌, OnOk, OnErr};
+ghost use Rattle.vx_feed.specs.declared.events.Event.{Event};
+ghost use Rattle.vx_feed.specs.Order.{IsLawfulNext};
+
+use vx_feed::Event;
+use vx_num::NoMemory;
+
+/// What takes up the events of a feed, one after another, and stands for their list: a book, or a
+/// replay.
+pub trait TakesEvents: Drop {
+    /// The lists of events that a value stands for. The list itself is not kept.
+    ghost StandsFor: { Self → List Event → Type 0 };
+
+    /// Takes up the next event. For want of memory the value stands for what it stood for before.
+    fn take(&mut self, event: Event) -> Result<(), NoMemory>
+        requires lawful { (events : List Event) × StandsFor self.old events × IsLawfulNext events event }
+        ensures taken { (events : List Event) → StandsFor self.old events → IsLawfulNext events event → OnOk result (StandsFor self.new (events ++ event ∷ [])) }
+        ensures kept { (events : List Event) → StandsFor self.old events → OnErr result (StandsFor self.new events) };
+}
