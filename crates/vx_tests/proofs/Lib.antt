@@ -1,0 +1,5 @@
+pub mod Decisions
+pub mod StripLemmas
+pub mod Products
+pub mod Comparisons
+pub mod TermRanges
