@@ -1,6 +1,6 @@
 -- What is kept of the series after one more event.
-use Rattle.std.proofs.Common.{◌≡◌, ◌∙◌, sym, ap, subst, refl, ℕ, ◌+◌, Bool, true, false, cond, ◌&&◌, ◌==◌, List, [], ◌∷◌, ◌++◌, Option, Some, None}
-use Rattle.std.specs.Prelude.{IfSome, MatchOption, is_some, slice_get}
+use Rattle.std.proofs.Common.{◌≡◌, ◌∙◌, sym, ap, subst, refl, ℕ, Bool, true, false, cond, ◌&&◌, ◌==◌, List, [], ◌∷◌, ◌++◌, Option, Some, None}
+use Rattle.std.specs.Prelude.{is_some, slice_get}
 use Rattle.std.specs.List.{list_any}
 use Rattle.std.specs.Option.{option_or}
 use Rattle.std.proofs.lemmas.Bool.{and_parts, eq-eqb, eqb-true}
@@ -10,11 +10,8 @@ use Rattle.vx_clock.specs.declared.terms.Root.TheVariants.{Spx, Spxw}
 use Rattle.vx_symbol.specs.declared.symbols.Side.{Side}
 use Rattle.vx_symbol.specs.declared.symbols.Side.TheVariants.{Call, Put}
 use Rattle.vx_symbol.specs.declared.symbols.Symbol.{Symbol}
-use Rattle.vx_symbol.specs.declared.rows.Price.{Price}
-use Rattle.vx_symbol.specs.Rows.{IsLawfulPrice}
 use Rattle.vx_feed.specs.declared.events.Event.{Event}
 use Rattle.vx_feed.specs.declared.events.Event.TheVariants as event
-use Rattle.vx_feed.specs.Ranges.{IsPrice}
 use Rattle.vx_feed.specs.Same.{is_same_expiry, is_same_root, is_same_series, is_same_side}
 use Rattle.vx_feed.specs.Standing.{BidAsk, is_opening, lists_series, opening_trade, quote_of, standing_quote, trade_of}
 use Rattle.vx_feed.specs.Listed.{expiry_of, is_listed, opposite, other_side, quoted_price, standing_price}

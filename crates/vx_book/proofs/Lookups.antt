@@ -1,18 +1,10 @@
 -- A map of series by the definition of the same series.
-use Rattle.std.proofs.Common.{◌≡◌, Bool, true, false, cond, List, [], ◌∷◌, Option, Some, None, Result, Ok, Err, refl, sym, ap, ◌∙◌}
+use Rattle.std.proofs.Common.{◌≡◌, Bool, cond, List, [], ◌∷◌, Some, None, Result, Ok, Err, refl, sym, ap, ◌∙◌}
 use Rattle.std.specs.Map.{lookup}
 use Rattle.std.specs.Option.{IsSome, is_some}
-use Rattle.std.specs.Result.{OnOk, OnErr, is_ok}
+use Rattle.std.specs.Result.{OnErr}
 use Rattle.vx_symbol.specs.declared.symbols.Symbol.{Symbol}
 use Rattle.vx_feed.specs.Same.{is_same_series}
-
-pub on_ok : {T E : Type 0} → (r : Result T E) (P : Type 0) → is_ok r ≡ true → OnOk r P → P
-on_ok (Ok x) P h p = p
-on_ok (Err e) P h p = cc
-
-pub on_err : {T E : Type 0} → (r : Result T E) (P : Type 0) → is_ok r ≡ false → OnErr r P → P
-on_err (Ok x) P h p = cc
-on_err (Err e) P h p = p
 
 pub on_err_always : {T E : Type 0} → (r : Result T E) (P : Type 0) → P → OnErr r P
 on_err_always (Ok x) P p = tt

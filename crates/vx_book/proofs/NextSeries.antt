@@ -1,13 +1,11 @@
 -- The book after a series is listed, quoted or traded, and after the opening.
-use Rattle.std.proofs.Common.{◌≡◌, ◌≢◌, ◌∙◌, sym, ap, subst, refl, inl, inr, ℕ, ℤ, ◌+◌, ◌<◌, ◌≤◌, Bool, true, false, cond, ◌&&◌, ◌||◌, List, [], ◌∷◌, ◌++◌, map, length, set, Option, Some, None, arith}
+use Rattle.std.proofs.Common.{◌≡◌, ◌∙◌, sym, ap, subst, refl, inl, inr, ℕ, ℤ, ◌+◌, ◌<◌, Bool, true, false, cond, ◌&&◌, ◌||◌, List, [], ◌∷◌, ◌++◌, length, set, Option, Some, None, arith}
 use Rattle.std.specs.Prelude.{IfSome, IsSomeAnd, MatchOption, is_some, slice_get, option_map, option_and_then}
 use Rattle.std.specs.List.{All, list_any, position}
-use Rattle.std.specs.Option.{option_or, option_to_list}
+use Rattle.std.specs.Option.{option_or}
 use Rattle.std.proofs.lemmas.Bool.{and_right, cases_Bool, cases_eq, not-false}
-use Rattle.std.proofs.lemmas.List.{append-nil, length-map, length-set, length_push}
-use Rattle.std.proofs.lemmas.Map.Keys.{any_passes_from_place}
-use Rattle.std.proofs.lemmas.Option.{option_and_then_some, slice_get-map, slice_get_within}
-use Rattle.vx_clock.specs.declared.days.DayNo.{DayNo}
+use Rattle.std.proofs.lemmas.List.{length-map, length-set, length_push}
+use Rattle.std.proofs.lemmas.Option.{slice_get-map, slice_get_within}
 use Rattle.vx_clock.specs.declared.terms.Expiry.{Expiry}
 use Rattle.vx_symbol.specs.declared.symbols.Side.{Side}
 use Rattle.vx_symbol.specs.declared.symbols.Side.TheVariants.{Call, Put}
@@ -18,11 +16,10 @@ use Rattle.vx_symbol.specs.Rows.{AreLawfulRows, IsLawfulPrice, IsLawfulRow, IsRa
 use Rattle.vx_feed.specs.declared.events.Event.{Event}
 use Rattle.vx_feed.specs.declared.events.Event.TheVariants as event
 use Rattle.vx_feed.specs.Ranges.{IsPrice}
-use Rattle.vx_feed.specs.Same.{is_same_expiry, is_same_series, is_same_side}
-use Rattle.vx_feed.specs.Standing.{is_opening, lists_series, opening_trade, quote_of, rate_of, standing_rate, trade_of}
-use Rattle.vx_feed.specs.Listed.{declared_expiries, declared_expiry, expiry_of, header_day, is_declared, is_listed, is_strike_listed, listed_rows, listed_strike, no_price, opposite, other_side, quoted_price, series_at, standing_price, trade_date}
-use Rattle.vx_feed.specs.Order.{IsLawfulNext, is_misplaced}
-use Rattle.vx_feed.proofs.NextEvent.{next_declared, next_listed, next_rate, next_trade_date, option_or-none, unlisted_has_none}
+use Rattle.vx_feed.specs.Same.{is_same_expiry, is_same_series}
+use Rattle.vx_feed.specs.Standing.{is_opening, lists_series, opening_trade, standing_rate}
+use Rattle.vx_feed.specs.Listed.{expiry_of, is_declared, is_listed, is_strike_listed, listed_rows, no_price, other_side, quoted_price, series_at, standing_price}
+use Rattle.vx_feed.proofs.NextEvent.{next_listed, unlisted_has_none}
 use Rattle.vx_feed.proofs.NoCauses.{no_causes}
 use Rattle.vx_feed.proofs.SameLemmas.{expiry_from_same}
 use Rattle.vx_book.specs.declared.book.Book.{Book}
@@ -30,21 +27,21 @@ use Rattle.vx_book.specs.declared.series.Place.{Place}
 use Rattle.vx_book.specs.declared.series.Place.TheVariants.{Alone, Row}
 use Rattle.vx_book.specs.declared.series.Series.{Series}
 use Rattle.vx_book.specs.declared.table.Table.{Table}
-use Rattle.vx_feed.specs.NextRows.{insert_row, is_listing, row_when_listed, row_without}
+use Rattle.vx_feed.specs.NextRows.{insert_row, row_when_listed, row_without}
 use Rattle.vx_book.specs.Series.{SetsSeries, kept, kept_trade}
 use Rattle.vx_book.specs.Tables.{AddsRow, ArePlaces, IsSameTable, SetsPrice, price_of, rows_with, strike_at, strike_of_row}
 use Rattle.vx_feed.specs.Opening.{opening_rate, opening_rows}
 use Rattle.vx_book.specs.Opening.{TakesOpening, kept_opening_rate, kept_opening_rows}
-use Rattle.vx_book.specs.StandsFor.{AreDistinct, AreOrderly, KeptStandsFor, MayApply, OpeningStandsFor, PlaceStandsFor, SeriesStandsFor, Shows, StandsFor, TableStandsFor, TablesStandFor, counted, strike_kept}
+use Rattle.vx_book.specs.StandsFor.{AreOrderly, KeptStandsFor, MayApply, PlaceStandsFor, SeriesStandsFor, Shows, StandsFor, TableStandsFor, TablesStandFor, counted, strike_kept}
 use Rattle.vx_feed.proofs.NextRows.{next_rows_listed}
-use Rattle.vx_book.proofs.Places.{get_before, get_unwritten, get_written, position_says}
-use Rattle.vx_book.proofs.Rows.{HasRow, has_row, strike_from_row}
-use Rattle.vx_book.proofs.Quiet.{apart, listed_same, price_same, rate_same, rows_quoted, rows_same, rows_with_unlisted, trade_same}
+use Rattle.vx_book.proofs.Places.{get_unwritten, get_written, position_says}
+use Rattle.vx_book.proofs.Rows.{has_row, strike_from_row}
+use Rattle.vx_book.proofs.Quiet.{apart, listed_same, price_same, rate_same, rows_quoted, rows_with_unlisted, trade_same}
 use Rattle.vx_book.proofs.Lawful.{all_inserted, listed_lawful, no_price-lawful, quoted_lawful, row_if, row_if-strike, row_without-lawful}
-use Rattle.vx_book.proofs.Terms.{LeavesTerm, and_here, and_there, distinct_added, expiry_itself, tables_added, tables_changed, tables_left}
-use Rattle.vx_book.proofs.Kept.{KeepsPlaces, LeavesSeries, after_set, apart_turned, at_same, keeps_all, kept_left, place_left, late_trade_leaves, listed_by, listed_kept, listing_leaves, other_apart, other_flipped, other_twice, price_quoted, quote_leaves, row_leaves, says_nothing, series_from_same, series_itself, series_left, trade_leaves, trade_taken, unlisted_kept, unlisted_left}
+use Rattle.vx_book.proofs.Terms.{LeavesTerm, and_here, expiry_itself, tables_changed, tables_left}
+use Rattle.vx_book.proofs.Kept.{LeavesSeries, after_set, apart_turned, at_same, keeps_all, kept_left, place_left, late_trade_leaves, listed_by, listed_kept, listing_leaves, other_apart, other_twice, price_quoted, quote_leaves, row_leaves, says_nothing, series_from_same, series_itself, series_left, trade_leaves, trade_taken, unlisted_kept, unlisted_left}
 use Rattle.vx_book.proofs.Room.{few_still, few_with_series, orderly_next}
-use Rattle.vx_book.proofs.Openings.{no_rows, opened_is, opened_now, opened_same, opening_added, opening_left, opening_taken, shows_nothing}
+use Rattle.vx_book.proofs.Openings.{opened_is, opened_now, opening_taken}
 use Rattle.vx_book.proofs.NextBook.{day_same, expiries_same, leaves_term, stands_rest, strikes_written, table_at, with_terms_of}
 
 -- ---- what the book says of a series

@@ -1,6 +1,6 @@
 -- The opening after one more event.
-use Rattle.std.proofs.Common.{◌≡◌, ◌∙◌, sym, ap, subst, refl, inl, inr, ℕ, zero, suc, ℤ, ◌+◌, ◌<◌, ◌≤◌, Bool, true, false, cond, ◌&&◌, ◌||◌, List, [], ◌∷◌, ◌++◌, map, length, Option, Some, None, arith}
-use Rattle.std.specs.Prelude.{IfSome, IsSomeAnd, is_some, slice_get, option_map, option_and_then}
+use Rattle.std.proofs.Common.{◌≡◌, ◌∙◌, sym, ap, subst, refl, inl, inr, ℕ, zero, suc, ℤ, ◌+◌, ◌<◌, ◌≤◌, Bool, true, false, cond, ◌||◌, List, [], ◌∷◌, ◌++◌, map, length, Option, Some, None, arith}
+use Rattle.std.specs.Prelude.{IfSome, is_some, slice_get, option_map, option_and_then}
 use Rattle.std.specs.List.{filter, list_any}
 use Rattle.std.specs.Option.{option_map_or, option_or}
 use Rattle.std.proofs.lemmas.Bool.{and_left, cases_Bool, cases_lt, or_parts}
@@ -23,7 +23,7 @@ use Rattle.vx_feed.proofs.NextEvent.{any-push, before_opening-all, first_said-pu
 use Rattle.vx_book.specs.declared.opening.Opened.{Opened}
 use Rattle.vx_book.specs.declared.opening.OpeningTerm.{OpeningTerm}
 use Rattle.vx_book.specs.declared.table.Table.{Table}
-use Rattle.vx_book.specs.Opening.{TakesOpening, kept_opening_rate, kept_opening_rows, opened_at, row_with_trades, rows_with_trades}
+use Rattle.vx_book.specs.Opening.{TakesOpening, kept_opening_rate, kept_opening_rows, opened_at, rows_with_trades}
 use Rattle.vx_book.specs.StandsFor.{OpeningStandsFor, Shows, TableStandsFor, TablesStandFor}
 use Rattle.vx_book.proofs.Lawful.{traded_rows_lawful}
 use Rattle.vx_feed.proofs.RisingStrikes.{dropped}

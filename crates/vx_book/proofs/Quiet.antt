@@ -11,9 +11,9 @@ use Rattle.vx_symbol.specs.declared.rows.Price.{Price}
 use Rattle.vx_symbol.specs.declared.rows.StrikeRow.{StrikeRow}
 use Rattle.vx_feed.specs.declared.events.Event.{Event}
 use Rattle.vx_feed.specs.declared.events.Event.TheVariants as event
-use Rattle.vx_feed.specs.Same.{is_same_day, is_same_expiry, is_same_root, is_same_series, is_same_side}
+use Rattle.vx_feed.specs.Same.{is_same_expiry, is_same_series, is_same_side}
 use Rattle.vx_feed.specs.Standing.{BidAsk, if_standing, is_opening, lists_series, opening_trade, quote_of, rate_of, standing_quote, standing_rate, trade_of}
-use Rattle.vx_feed.specs.Listed.{expiry_of, is_listed, is_strike_listed, listed_rows, listed_strike, listed_strikes, quoted_price, row_of, series_at, standing_price, strikes_of, with_strike}
+use Rattle.vx_feed.specs.Listed.{expiry_of, is_listed, is_strike_listed, listed_rows, listed_strike, quoted_price, row_of, series_at, standing_price, strikes_of, with_strike}
 use Rattle.vx_feed.specs.Next.{quote_after, trade_after}
 use Rattle.vx_feed.proofs.NextEvent.{next_listed, next_quote, next_rate, next_strikes, next_trade, option_or-none, or-false}
 use Rattle.vx_feed.specs.NextRows.{is_listing, price_after, row_after}

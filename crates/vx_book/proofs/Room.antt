@@ -1,23 +1,21 @@
 -- How many strikes an expiry has, and what an event that is lawful next says of it.
-use Rattle.std.proofs.Common.{◌≡◌, ◌∙◌, sym, ap, subst, refl, inl, inr, ℕ, zero, suc, ◌+◌, ◌-◌, ◌<◌, ◌≤◌, Bool, true, false, cond, not, ◌&&◌, ◌||◌, ◌==◌, List, [], ◌∷◌, ◌++◌, length, Option, Some, None, arith}
+use Rattle.std.proofs.Common.{◌≡◌, ◌∙◌, sym, ap, subst, refl, inl, inr, ℕ, ◌+◌, ◌<◌, ◌≤◌, Bool, true, false, cond, not, ◌&&◌, ◌||◌, ◌==◌, List, [], ◌∷◌, ◌++◌, length, Some, None, arith}
 use Rattle.std.specs.Prelude.{nat_le}
 use Rattle.std.specs.List.{list_any}
 use Rattle.std.specs.Option.{option_to_list}
-use Rattle.std.proofs.lemmas.Bool.{cases_Bool, cases_order, eq-eqb, eqb-true, leb-false, ne_eqb, not-false, or_parts}
+use Rattle.std.proofs.lemmas.Bool.{cases_Bool, cases_order, eq-eqb, eqb-true, leb-false, ne_eqb, or_parts}
 use Rattle.std.proofs.lemmas.List.Folds.{list_any-append}
 use Rattle.vx_clock.specs.declared.terms.Expiry.{Expiry}
 use Rattle.vx_symbol.specs.declared.limits.TheConstants.{ROWS_MAX}
-use Rattle.vx_symbol.specs.declared.symbols.Side.{Side}
-use Rattle.vx_symbol.specs.declared.symbols.Side.TheVariants.{Call, Put}
+use Rattle.vx_symbol.specs.declared.symbols.Side.TheVariants.{Put}
 use Rattle.vx_symbol.specs.declared.symbols.Symbol.{Symbol}
 use Rattle.vx_feed.specs.declared.events.Event.{Event}
 use Rattle.vx_feed.specs.declared.events.Event.TheVariants as event
-use Rattle.vx_feed.specs.declared.faults.FeedFault.{FeedFault}
 use Rattle.vx_feed.specs.declared.limits.TheConstants.{LINES_MAX}
 use Rattle.vx_feed.specs.Same.{is_same_expiry}
-use Rattle.vx_feed.specs.Standing.{is_opening, rate_of, standing_rate}
-use Rattle.vx_feed.specs.Listed.{declared_expiries, declared_expiry, expiry_of, insert_strike, is_declared, is_listed, listed_strike, other_side, series_at, strikes_of, trade_date, with_strike}
-use Rattle.vx_feed.specs.Order.{IsLawfulNext, first_fault, has_too_many_expiries, has_too_many_strikes, is_duplicate_expiry, is_duplicate_series, is_misplaced, is_second_opening, is_too_many, is_undeclared, order_causes, order_fault}
+use Rattle.vx_feed.specs.Standing.{rate_of}
+use Rattle.vx_feed.specs.Listed.{declared_expiries, declared_expiry, expiry_of, insert_strike, is_declared, is_listed, listed_strike, other_side, series_at, strikes_of, with_strike}
+use Rattle.vx_feed.specs.Order.{IsLawfulNext, has_too_many_expiries, has_too_many_strikes, is_too_many}
 use Rattle.vx_feed.proofs.NextEvent.{next_declared, next_strikes}
 use Rattle.vx_feed.proofs.NoCauses.{no_causes}
 use Rattle.vx_feed.proofs.SameLemmas.{expiry_from_same}
@@ -27,11 +25,6 @@ use Rattle.vx_feed.proofs.RisingStrikes.{RisesFrom, strikes_rise}
 use Rattle.vx_book.proofs.Quiet.{rate_same, strikes_same}
 
 -- ---- what an event that is lawful next says of numbers
-
-pub few_lines : (before : List Event) (e : Event) → is_too_many before e ≡ false → length before < LINES_MAX
-few_lines before e h =
-    leb-false LINES_MAX (length before)
-    (or_parts (has_too_many_expiries before e || has_too_many_strikes before e) (nat_le LINES_MAX (length before)) h).1
 
 few_strikes : (before : List Event) (e : Event) → is_too_many before e ≡ false → has_too_many_strikes before e ≡ false
 few_strikes before e h =
@@ -49,9 +42,6 @@ has_below q low (k ∷ ks) r h =
 
 has_first : (k : ℕ) (ks : List ℕ) → has_strike k (k ∷ ks) ≡ true
 has_first k ks = ap (λ b. b || has_strike k ks) (eq-eqb k k refl)
-
-has_later : (q k : ℕ) (ks : List ℕ) → (k ≡ q → ⊥) → has_strike q (k ∷ ks) ≡ has_strike q ks
-has_later q k ks ne = ap (λ b. b || has_strike q ks) (ne_eqb k q ne)
 
 same_strikes : (low other : ℕ) (js ks : List ℕ) → RisesFrom low js → RisesFrom other ks → ((q : ℕ) → has_strike q js ≡ has_strike q ks) → js ≡ ks
 same_strikes low other [] [] r s h = refl

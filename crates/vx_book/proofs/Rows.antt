@@ -1,7 +1,7 @@
 -- Rows in rising order: where a row goes, what another price changes, and which row has which number.
-use Rattle.std.proofs.Common.{◌≡◌, ◌≢◌, ℕ, zero, suc, ◌+◌, ◌<◌, ◌≤◌, ◌==◌, List, [], ◌∷◌, ◌++◌, map, length, get_or, set, take, drop, Option, Some, None, refl, sym, ap, subst, ◌∙◌, inl, inr, Bool, true, false, cond, arith}
+use Rattle.std.proofs.Common.{◌≡◌, ◌≢◌, ℕ, zero, suc, ◌+◌, ◌<◌, ◌≤◌, ◌==◌, List, [], ◌∷◌, ◌++◌, map, length, get_or, set, take, drop, Option, Some, None, refl, sym, ap, subst, ◌∙◌, inl, inr, true, false, cond, arith}
 use Rattle.std.specs.Prelude.{nat_le, nat_lt, slice_get, option_map, option_and_then}
-use Rattle.std.specs.List.{All, insert}
+use Rattle.std.specs.List.{insert}
 use Rattle.std.specs.List.Sorted.{IsPartitionedBy, IsPartitionPoint}
 use Rattle.std.proofs.lemmas.Bool.{cases_lt, eq-eqb, ne_eqb, leb-true, leb-false, le-leb}
 use Rattle.std.proofs.lemmas.Bool.Decides.{nat_tests}

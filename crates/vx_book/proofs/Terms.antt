@@ -1,26 +1,22 @@
 -- The tables of the expiries after one more event.
-use Rattle.std.proofs.Common.{◌≡◌, ◌≢◌, ◌∙◌, sym, ap, subst, refl, inl, inr, ℕ, ℤ, ◌+◌, ◌<◌, ◌≤◌, Bool, true, false, ◌&&◌, List, [], ◌∷◌, ◌++◌, length, set, Option, Some, None, arith}
-use Rattle.std.specs.Prelude.{IfSome, IsSomeAnd, slice_get}
-use Rattle.std.proofs.lemmas.Bool.{cases_Bool, cases_eq}
+use Rattle.std.proofs.Common.{◌≡◌, ◌≢◌, ◌∙◌, sym, ap, subst, refl, inl, inr, ℕ, ℤ, ◌+◌, ◌<◌, true, false, ◌&&◌, List, [], ◌∷◌, ◌++◌, length, set, Option, Some, None, arith}
+use Rattle.std.specs.Prelude.{IsSomeAnd, slice_get}
+use Rattle.std.proofs.lemmas.Bool.{cases_Bool}
 use Rattle.std.proofs.lemmas.List.{length-set}
 use Rattle.std.proofs.lemmas.Option.{slice_get_within}
-use Rattle.std.specs.Ordering.{int_eq}
 use Rattle.std.proofs.lemmas.Bool.Decides.{Decides-int_eq}
-use Rattle.vx_clock.specs.declared.days.DayNo.{DayNo}
 use Rattle.vx_clock.specs.declared.terms.Expiry.{Expiry}
 use Rattle.vx_clock.specs.declared.terms.Root.{Root}
 use Rattle.vx_clock.specs.declared.terms.Root.TheVariants.{Spx, Spxw}
 use Rattle.vx_symbol.specs.declared.rows.StrikeRow.{StrikeRow}
-use Rattle.vx_symbol.specs.Rows.{AreLawfulRows, IsRateInRange}
 use Rattle.vx_feed.specs.declared.events.Event.{Event}
 use Rattle.vx_feed.specs.Same.{is_same_day, is_same_expiry, is_same_root}
-use Rattle.vx_feed.specs.Standing.{rate_of, standing_rate}
+use Rattle.vx_feed.specs.Standing.{standing_rate}
 use Rattle.vx_feed.specs.Listed.{listed_rows}
 use Rattle.vx_feed.proofs.SameLemmas.{expiry_from_same}
 use Rattle.vx_book.specs.declared.table.Table.{Table}
 use Rattle.vx_book.specs.StandsFor.{AreDistinct, Shows, TableStandsFor, TablesStandFor}
 use Rattle.vx_book.proofs.Places.{get_before, get_of_pushed, get_pushed, get_unwritten, get_written}
-use Rattle.vx_book.proofs.Quiet.{rate_same}
 
 -- ---- an item that may be there
 

@@ -1,5 +1,5 @@
 -- What a table keeps of its expiry. This project's own.
-use Rattle.std.specs.Prelude.{◌≡◌, ℕ, ◌+◌, ◌<◌, ◌≤◌, ◌==◌, nat_le, List, [], map, length, Option, Some, option_map, option_and_then, slice_get, if◌then◌else◌}
+use Rattle.std.specs.Prelude.{◌≡◌, ℕ, ◌+◌, ◌<◌, ◌≤◌, ◌==◌, nat_le, List, map, length, Option, Some, option_map, option_and_then, slice_get, if◌then◌else◌}
 use Rattle.std.specs.List.{All, AllPairs, insert}
 use Rattle.vx_symbol.specs.declared.symbols.Side.{Side}
 use Rattle.vx_symbol.specs.declared.symbols.Side.TheVariants.{Call, Put}

@@ -1,4 +1,4 @@
-use Rattle.std.proofs.Common.{◌≡◌, ◌∙◌, sym, ap, not, true, ◌++◌, ◌∷◌, []}
+use Rattle.std.proofs.Common.{◌≡◌, ◌∙◌, ap, not, true, ◌++◌, ◌∷◌, []}
 use Rattle.std.specs.Prelude.{is_ok}
 use Rattle.vx_book.proofs.NextBook.{stands_declared}
 use Rattle.vx_book.proofs.book.Book.declare.Goals as goal

@@ -1,4 +1,4 @@
-use Rattle.std.proofs.Common.{◌≡◌, ◌∙◌, ◌+◌, Some, length, ap, sym, arith}
+use Rattle.std.proofs.Common.{◌≡◌, ◌+◌, Some, length, ap, arith}
 use Rattle.vx_book.specs.declared.opening.Opened.{Opened}
 use Rattle.vx_book.proofs.NextSeries.{stands_opened}
 use Rattle.vx_book.proofs.book.Book.open.Goals as goal

@@ -1,4 +1,4 @@
-use Rattle.std.proofs.Common.{◌≡◌, ◌∙◌, Some, set, length, ap, sym, refl, to_z, of_z, to_z-of_z, w32, arith}
+use Rattle.std.proofs.Common.{◌≡◌, Some, set, length, ap, refl, to_z, of_z, to_z-of_z, w32, arith}
 use Rattle.std.specs.Prelude.{slice_get}
 use Rattle.std.specs.Vec.{with_item}
 use Rattle.std.proofs.lemmas.Option.{slice_get_read}

@@ -1,7 +1,7 @@
-use Rattle.std.proofs.Common.{◌≡◌, ◌∙◌, ◌++◌, ◌∷◌, [], ap, subst, sym, refl, inl, inr}
+use Rattle.std.proofs.Common.{◌++◌, ◌∷◌, [], subst, sym, inl, inr}
 use Rattle.vx_feed.specs.declared.events.Event.{Event}
 use Rattle.vx_book.specs.StandsFor.{StandsFor, counted}
-use Rattle.vx_book.proofs.NextBook.{stands_end, stands_header, stands_tick}
+use Rattle.vx_book.proofs.NextBook.{stands_end, stands_tick}
 use Rattle.vx_book.proofs.book.Book.take.Goals as goal
 
 pub returns-in-Tick-clause-taken : goal.returns-in-Tick-clause-taken

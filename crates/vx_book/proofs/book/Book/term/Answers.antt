@@ -1,6 +1,5 @@
-use Rattle.std.proofs.Common.{◌≡◌, ◌∙◌, Some, List, length, ap, subst, sym, refl}
+use Rattle.std.proofs.Common.{◌∙◌, length, subst, sym, refl}
 use Rattle.std.proofs.lemmas.Option.{slice_get_read}
-use Rattle.vx_symbol.specs.declared.rows.StrikeRow.{StrikeRow}
 use Rattle.vx_symbol.specs.Rows.{AreLawfulRows}
 use Rattle.vx_book.proofs.NextBook.{table_at}
 use Rattle.vx_book.proofs.NextSeries.{place_within}
