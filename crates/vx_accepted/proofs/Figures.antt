@@ -123,7 +123,7 @@ high_end_small P x (pos (suc h)) range root not_negative =
     omega (arith, ints, less)
 
 -- the figure of v millionths lies within half a cent of it
-cents_low : (v : ℕ) → 10000 * cents_of v ≤ v + 5000
+pub cents_low : (v : ℕ) → 10000 * cents_of v ≤ v + 5000
 cents_low v = let parts = div-add-mod' (v + 5000) 10000 in omega (arith, parts)
 
 cents_high : (v : ℕ) → v < 10000 * cents_of v + 5000

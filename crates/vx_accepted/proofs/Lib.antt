@@ -19,3 +19,6 @@ pub mod Picks
 pub mod IndexEnds
 -- what a tick and the opening show
 pub mod FactsLawful
+-- the ranges of what is stated, and of declared expiries
+pub mod Statable
+pub mod DeclaredExpiries

@@ -1,8 +1,11 @@
--- What a lawful feed shows at a tick and at the opening is there, and lawful.
-use Rattle.std.specs.Prelude.{ℕ, List, IfSome}
+-- What a lawful feed shows at a tick and at the opening is there, and lawful; and each expiry that it declares is in range.
+use Rattle.std.specs.Prelude.{ℕ, List, Contains, IfSome}
+use Rattle.vx_clock.specs.declared.terms.Expiry.{Expiry}
 use Rattle.vx_feed.specs.declared.events.Event.{Event}
+use Rattle.vx_feed.specs.Listed.{declared_expiries}
 use Rattle.vx_feed.specs.Order.{AreLawful}
 use Rattle.vx_formula.specs.Refusal.{TickFacts}
+use Rattle.vx_cert.specs.Ranges.{IsExpiryInRange}
 use Rattle.vx_claims.specs.Seen.{IsTickAt, AreTickFacts, opening_facts}
 use Rattle.vx_term.specs.Ranges.{AreDaysInRange, AreFactsLawful}
 use Rattle.vx_accepted.specs.Picked.{IsWindowInRange}
@@ -25,3 +28,7 @@ TickFactsAreLawful = (days window : ℕ) (events : List Event) (line time : ℕ)
 -- the term of the opening of lawful events is lawful, where it is declared
 abbrev pub OpeningFactsAreLawful : Type 0
 OpeningFactsAreLawful = (events : List Event) → AreLawful events → IfSome (opening_facts events).term AreFactsLawful
+
+-- each declared expiry of lawful events is a day of the years 2000 to 2099
+abbrev pub DeclaredExpiriesAreInRange : Type 0
+DeclaredExpiriesAreInRange = (events : List Event) (x : Expiry) → AreLawful events → Contains (declared_expiries events) x → IsExpiryInRange x

@@ -1,3 +1,4 @@
 pub mod Certified
+pub mod Statable
 pub mod Picked
 pub mod Facts

@@ -1,12 +1,20 @@
 //! The laws. Each function does nothing.
 
 ghost use Rattle.vx_accepted.specs.Certified.{CertifiedTermIsTrue};
-ghost use Rattle.vx_accepted.specs.Facts.{OpeningFactsAreLawful, TickFactsAreLawful, TickHasLawfulFacts};
+ghost use Rattle.vx_accepted.specs.Facts.{DeclaredExpiriesAreInRange, OpeningFactsAreLawful, TickFactsAreLawful, TickHasLawfulFacts};
 ghost use Rattle.vx_accepted.specs.Picked.{NearIsPickedOrNone, NextIsPickedOrNone, PickedMinutesAreInRange};
+ghost use Rattle.vx_accepted.specs.Statable.{FigureIsStatable, RunIsStatable};
 
 /// What a certificate states of a term's run meets every test of one term.
 pub fn certified_term_is_true()
     ensures { CertifiedTermIsTrue }
+{}
+
+/// What a certificate states of a run and of a figure is in the range of each of its fields, so that it
+/// can be written.
+pub fn certified_is_statable()
+    ensures run { RunIsStatable }
+    ensures figure { FigureIsStatable }
 {}
 
 /// Of any expiries one is picked as a term, or none is in the term's window.
@@ -25,4 +33,9 @@ pub fn facts_are_lawful()
     ensures there { TickHasLawfulFacts }
     ensures tick { TickFactsAreLawful }
     ensures opening { OpeningFactsAreLawful }
+{}
+
+/// Each declared expiry of a lawful feed is a day of the years 2000 to 2099, as a certificate states it.
+pub fn declared_expiries_are_in_range()
+    ensures { DeclaredExpiriesAreInRange }
 {}

@@ -1,4 +1,4 @@
--- The laws of the index's ends.
+-- What is decided from the square of the index, and the laws of its ends.
 use Rattle.std.specs.Prelude.{◌≡◌, ℕ, ◌*◌, ◌<◌, ◌≤◌, ℤ, pos, ◌+ℤ◌, ◌≤ℤ◌}
 use Rattle.vx_clock.specs.declared.limits.TheConstants.{DAY_MINUTES}
 use Rattle.vx_interval.specs.Ends.{Ends, width}
