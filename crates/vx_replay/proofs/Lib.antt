@@ -7,3 +7,11 @@ pub mod Places
 pub mod Accepted
 pub mod LawfulTicks
 pub mod Completeness
+pub mod Joining
+-- the replay
+pub mod StripSteps
+pub mod TickSteps
+pub mod TermsShown
+pub mod TermsKept
+pub mod NextReplay
+pub mod QuietEvents

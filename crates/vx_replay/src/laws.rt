@@ -1,12 +1,17 @@
 //! The laws of the answer to a tick. Each function does nothing: its clauses are the laws.
 
-ghost use Rattle.vx_replay.specs.Laws.{TickAnswerIsOne};
+ghost use Rattle.vx_replay.specs.Laws.{PickedAnswersAreJoinable, TickAnswerIsOne};
 ghost use Rattle.vx_replay.specs.Lawful.{TickAnswerIsLawful};
 ghost use Rattle.vx_replay.specs.Complete.{ClearTickIsPublished, FirstRefusalIsAnswered};
 
 /// A tick of a feed has at most one answer.
 pub fn tick_answer_is_one()
     ensures { TickAnswerIsOne }
+{}
+
+/// The answers for the two terms that are picked of a lawful feed can be joined.
+pub fn picked_answers_are_joinable()
+    ensures { PickedAnswersAreJoinable }
 {}
 
 /// The answer to a tick of a lawful feed is lawful: a figure that is the formula's exact value rounded,
