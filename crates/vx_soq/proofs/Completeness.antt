@@ -107,16 +107,16 @@ not_before Holds place reason holds none = elim (cases_lt (opening_place reason)
 
 -- the first refusal is answered where what comes before it is clear
 pub first_opening_refusal_is_answered : FirstOpeningRefusalIsAnswered
-first_opening_refusal_is_answered events (Refused reason) refusal lawful is first forward index =
+first_opening_refusal_is_answered events (Refused reason) lawful is refusal first forward index =
     first_opening_refusal_is_one SCALE (opening_facts events) _ refusal (opening_answer_is_lawful events (Refused reason) lawful is) first
-first_opening_refusal_is_answered events (Published figure) refusal lawful is first forward index =
+first_opening_refusal_is_answered events (Published figure) lawful is refusal first forward index =
     let published = opening_answer_is_lawful events (Published figure) lawful is in
     published.1.none_refuses refusal first.holds
-first_opening_refusal_is_answered events (UndecidedCents lo hi) refusal lawful is first forward index =
+first_opening_refusal_is_answered events (UndecidedCents lo hi) lawful is refusal first forward index =
     let leaves : LeavesOpeningCents events lo hi = opening_answer_is_lawful events (UndecidedCents lo hi) lawful is in
     let late = not_before (OpeningRefuses SCALE (opening_facts events)) opening_cents_undecided_place refusal first.holds leaves.none_earlier in
     cents_are_decided events (UndecidedCents lo hi) lawful is (index (late_is_negative refusal late)) lo hi leaves
-first_opening_refusal_is_answered events (UndecidedForward strike lo hi) refusal lawful is first forward index =
+first_opening_refusal_is_answered events (UndecidedForward strike lo hi) lawful is refusal first forward index =
     let leaves : LeavesOpeningForward events strike lo hi = opening_answer_is_lawful events (UndecidedForward strike lo hi) lawful is in
     let late = past_forward refusal (not_before (OpeningRefuses SCALE (opening_facts events)) opening_undecided_place refusal first.holds leaves.none_earlier) in
     term_is_decided _ is.time strike lo hi is.term_answer (forward_is_decided events (UndecidedForward strike lo hi) lawful is (forward late)) is.joined

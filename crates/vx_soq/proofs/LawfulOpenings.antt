@@ -53,7 +53,7 @@ use Rattle.vx_soq.specs.declared.answer.OpeningAnswer.{OpeningAnswer}
 use Rattle.vx_soq.specs.declared.answer.OpeningAnswer.TheVariants.{Published, Refused, UndecidedForward, UndecidedCents}
 use Rattle.vx_soq.specs.declared.answer.SoqReason.TheVariants.{NoOpening, NoTerm, Term, NegativeVariance}
 use Rattle.vx_soq.specs.Figures.{opening_certificate, IsFigureAnswer, IsJoined}
-use Rattle.vx_soq.specs.Openings.{IsAnswerOfTerm}
+use Rattle.vx_soq.specs.Openings.{HasNoTerm, IsAnswerOfTerm}
 use Rattle.vx_soq.specs.Lawful.{IsLawfulOpening, OpeningAnswerIsLawful}
 
 fine : IsScale SCALE
@@ -131,15 +131,6 @@ module _ (events : List Event) (day : DayNo) (time : ℕ) (lawful : AreLawful ev
   pub facts_lawful : AreFactsLawful facts
   facts_lawful = let shown = opening_is_lawful (opening_expiry day) events lawful in record { rows = shown.rows_are; rate = shown.rate_is; minutes = (omega arith, omega arith) }
 
-  no_term_refuses : opening_term_of events day ≡ None → RefusesOpening events no_term
-  no_term_refuses none = record { holds = term_of_day ∙ none; none_earlier = first }
-    where
-      first : (other : OpeningReason) → opening_place other < 2 → ¬ OpeningRefuses SCALE (opening_facts events) other
-      first no_opening less h = let was = taken in absurd cc
-      first no_term less h = omega (arith, less)
-      first (of_term reason) less h = omega (arith, less)
-      first negative_opening less h = omega (arith, less)
-
   module _ (declared : is_declared (opening_expiry day) (before_opening events) ≡ true) where
     facts_of_day : opening_term_of events day ≡ Some facts
     facts_of_day = cond-true (is_declared (opening_expiry day) (before_opening events)) (Some facts) None declared
@@ -187,10 +178,11 @@ module _ (events : List Event) (day : DayNo) (time : ℕ) (lawful : AreLawful ev
       abbrev square : Ends
       square = single_ends a.w
 
-      square_ordered : square.lo ≤ℤ square.hi
+      -- the square of the index has its ends in order, within 1024
+      pub square_ordered : square.lo ≤ℤ square.hi
       square_ordered = (square_is_ordered 0 0 0 a.w a.w ordered ordered).1
 
-      square_in_range : IsSquareInRange SCALE square
+      pub square_in_range : IsSquareInRange SCALE square
       square_in_range = single_range SCALE a.w ordered variance_range
 
       meet : (Test : Fraction → Type 0) → ((x : Fraction) → IsMember SCALE square x → Test x) → OneTermMeets one Test
@@ -316,10 +308,19 @@ no_opening_refuses events none = record { holds = ap is_some none; none_earlier 
     first (of_term reason) less h = omega (arith, less)
     first negative_opening less h = omega (arith, less)
 
+no_term_refuses : (events : List Event) → HasNoTerm events → RefusesOpening events no_term
+no_term_refuses events none = record { holds = none.no_term; none_earlier = first }
+  where
+    first : (other : OpeningReason) → opening_place other < 2 → ¬ OpeningRefuses SCALE (opening_facts events) other
+    first no_opening less h = let was = none.is_taken in absurd cc
+    first no_term less h = omega (arith, less)
+    first (of_term reason) less h = omega (arith, less)
+    first negative_opening less h = omega (arith, less)
+
 -- the answer is lawful
 pub opening_answer_is_lawful : OpeningAnswerIsLawful
 opening_answer_is_lawful events (Refused NoOpening) lawful h = no_opening_refuses events h
-opening_answer_is_lawful events (Refused NoTerm) lawful (day, time, is_taken, none) = no_term_refuses events day time lawful is_taken.day_is is_taken.time_is none
+opening_answer_is_lawful events (Refused NoTerm) lawful h = no_term_refuses events h
 opening_answer_is_lawful events (Refused (Term reason)) lawful h = of_term_answer events (Refused (Term reason)) lawful h
 opening_answer_is_lawful events (Refused NegativeVariance) lawful h = of_term_answer events (Refused NegativeVariance) lawful h
 opening_answer_is_lawful events (Published figure) lawful h = of_term_answer events (Published figure) lawful h

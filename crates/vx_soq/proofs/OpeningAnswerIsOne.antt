@@ -1,5 +1,7 @@
 -- The opening has at most one answer.
 use Rattle.std.proofs.Common.{◌≡◌, ℕ, ◌⊎◌, Bool, true, false, cond, List, Some, None, refl, sym, ◌∙◌, ap, subst, inl, inr}
+use Rattle.std.specs.Prelude.{IsSome, is_some}
+use Rattle.std.specs.Option.{option_and_then}
 use Rattle.std.proofs.lemmas.Option.{same_Some, none-some}
 use Rattle.vx_clock.specs.declared.days.DayNo.{DayNo}
 use Rattle.vx_clock.specs.declared.terms.Expiry.{Expiry}
@@ -10,7 +12,7 @@ use Rattle.vx_feed.specs.Opening.{opening_time, opening_line}
 use Rattle.vx_formula.specs.Term.{TermFacts}
 use Rattle.vx_formula.specs.Level.{StrikesRise}
 use Rattle.vx_claims.specs.declared.limits.TheConstants.{SCALE}
-use Rattle.vx_claims.specs.Seen.{opening_expiry, opening_term_facts, opening_term_of}
+use Rattle.vx_claims.specs.Seen.{opening_expiry, opening_term_facts, opening_term_of, opening_facts}
 use Rattle.vx_claims.proofs.RisingRows.{listed_rows_rise}
 use Rattle.vx_term.specs.declared.answer.TermAnswer.{TermAnswer}
 use Rattle.vx_term.specs.declared.answer.TermAnswer.TheVariants as term
@@ -71,22 +73,25 @@ module _ (events : List Event) where
   steps (Refused (Term refusal)) h = inr (inr h)
   steps (Refused NegativeVariance) h = inr (inr h)
 
-  not_taken : (d : DayNo) (t : ℕ) → opening_time events ≡ None → IsTaken events d t → ⊥
-  not_taken d t none h = none-some t (sym none ∙ h.time_is)
+  not_taken : opening_time events ≡ None → IsSome (opening_time events) → ⊥
+  not_taken none taken = let no : is_some (opening_time events) ≡ false = ap is_some none in absurd cc
+
+  taken_by : (a : OpeningAnswer) → IsAnswerOfTerm events a → IsSome (opening_time events)
+  taken_by a h = ap is_some (h.is_taken).time_is
 
   term_or_none : HasNoTerm events → (a : OpeningAnswer) → IsAnswerOfTerm events a → ⊥
-  term_or_none (day, time, taken, none) a h =
-      let days : day ≡ h.day = day_is_one day h.day time h.time taken h.is_taken in
-      none-some h.facts (sym none ∙ ap (opening_term_of events) days ∙ h.facts_are)
+  term_or_none none a h =
+      let chosen : (opening_facts events).term ≡ Some h.facts = ap (option_and_then (opening_term_of events)) (h.is_taken).day_is ∙ h.facts_are in
+      none-some h.facts (sym none.no_term ∙ chosen)
 
   steps_are_one : (a b : OpeningAnswer) → Steps a → Steps b → a ≡ b
   steps_are_one a b (inl (none, e)) (inl (none', f)) = e ∙ sym f
-  steps_are_one a b (inl (none, e)) (inr (inl ((day, time, taken, k), f))) = absurd (not_taken day time none taken)
-  steps_are_one a b (inl (none, e)) (inr (inr k)) = absurd (not_taken k.day k.time none k.is_taken)
-  steps_are_one a b (inr (inl ((day, time, taken, h), e))) (inl (none, f)) = absurd (not_taken day time none taken)
+  steps_are_one a b (inl (none, e)) (inr (inl (k, f))) = absurd (not_taken none k.is_taken)
+  steps_are_one a b (inl (none, e)) (inr (inr k)) = absurd (not_taken none (taken_by b k))
+  steps_are_one a b (inr (inl (h, e))) (inl (none, f)) = absurd (not_taken none h.is_taken)
   steps_are_one a b (inr (inl (h, e))) (inr (inl (k, f))) = e ∙ sym f
   steps_are_one a b (inr (inl (h, e))) (inr (inr k)) = absurd (term_or_none h b k)
-  steps_are_one a b (inr (inr h)) (inl (none, f)) = absurd (not_taken h.day h.time none h.is_taken)
+  steps_are_one a b (inr (inr h)) (inl (none, f)) = absurd (not_taken none (taken_by a h))
   steps_are_one a b (inr (inr h)) (inr (inl (k, f))) = absurd (term_or_none k a h)
   steps_are_one a b (inr (inr h)) (inr (inr k)) = of_term_one a b h k
 

@@ -1,4 +1,4 @@
--- What the opening is sure to be answered: a figure, or the first refusal, where all that comes before is far from every boundary.
+-- What the opening is sure to be answered: a figure, or the first refusal, where all is far from every boundary.
 use Rattle.std.specs.Prelude.{◌≡◌, ◌<◌, List, Some}
 use Rattle.vx_feed.specs.declared.events.Event.{Event}
 use Rattle.vx_feed.specs.Order.{AreLawful}
@@ -16,11 +16,13 @@ use Rattle.vx_soq.specs.Lawful.{opening_reason}
 
 -- the forward of the opening's term is clear, if there is one
 abbrev pub HasClearForward : List Event → Type 0
-HasClearForward events = (facts : TermFacts) (term : Term) → (opening_facts events).term ≡ Some facts → IsTermOf facts term → IsClearForward term
+HasClearForward events = (facts : TermFacts) (term : Term) →
+    (opening_facts events).term ≡ Some facts → IsTermOf facts term → IsClearForward term
 
 -- and the index
 abbrev pub HasClearIndex : List Event → Type 0
-HasClearIndex events = (facts : TermFacts) (term : Term) → (opening_facts events).term ≡ Some facts → IsTermOf facts term → IsClearIndex (OneTerm term)
+HasClearIndex events = (facts : TermFacts) (term : Term) →
+    (opening_facts events).term ≡ Some facts → IsTermOf facts term → IsClearIndex (OneTerm term)
 
 abbrev pub IsPublished : OpeningAnswer → Type 0
 IsPublished (Published figure) = Unit {0}
@@ -31,14 +33,24 @@ abbrev pub IsRefusedFor : OpeningReason → OpeningAnswer → Type 0
 IsRefusedFor refusal (Refused reason) = opening_reason reason ≡ refusal
 IsRefusedFor refusal _ = ⊥
 
--- where no refusal holds, and the forward and the index are clear, a figure is published
-abbrev pub ClearOpeningIsPublished : Type 0
-ClearOpeningIsPublished = (events : List Event) (answer : OpeningAnswer) → AreLawful events → IsOpeningAnswer events answer →
-    ((reason : OpeningReason) → ¬ OpeningRefuses SCALE (opening_facts events) reason) → HasClearForward events → HasClearIndex events → IsPublished answer
+-- where no refusal holds, and the forward and the index are clear, it is a figure
+abbrev pub PublishesWhereClear : List Event → OpeningAnswer → Type 0
+PublishesWhereClear events answer =
+    ((reason : OpeningReason) → ¬ OpeningRefuses SCALE (opening_facts events) reason) →
+    HasClearForward events → HasClearIndex events → IsPublished answer
 
--- where a refusal is the first that holds, and the forward is clear if its undecided answer comes before it, it is answered; for a
--- negative variance the index is to be clear too
-abbrev pub FirstOpeningRefusalIsAnswered : Type 0
-FirstOpeningRefusalIsAnswered = (events : List Event) (answer : OpeningAnswer) (reason : OpeningReason) → AreLawful events → IsOpeningAnswer events answer →
-    RefusesOpening events reason → (opening_undecided_place < opening_place reason → HasClearForward events) →
+-- where a refusal is the first that holds, and the forward is clear if its undecided answer comes before it, it is that
+-- refusal; for a negative variance the index is to be clear too
+abbrev pub RefusesWhereClear : List Event → OpeningAnswer → Type 0
+RefusesWhereClear events answer = (reason : OpeningReason) → RefusesOpening events reason →
+    (opening_undecided_place < opening_place reason → HasClearForward events) →
     (reason ≡ negative_opening → HasClearIndex events) → IsRefusedFor reason answer
+
+-- the answer to the opening of lawful events is so
+abbrev pub ClearOpeningIsPublished : Type 0
+ClearOpeningIsPublished = (events : List Event) (answer : OpeningAnswer) →
+    AreLawful events → IsOpeningAnswer events answer → PublishesWhereClear events answer
+
+abbrev pub FirstOpeningRefusalIsAnswered : Type 0
+FirstOpeningRefusalIsAnswered = (events : List Event) (answer : OpeningAnswer) →
+    AreLawful events → IsOpeningAnswer events answer → RefusesWhereClear events answer

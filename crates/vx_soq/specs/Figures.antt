@@ -4,6 +4,7 @@ use Rattle.vx_bounds.specs.Cents.{Decides}
 use Rattle.vx_bounds.specs.declared.cents.Decision.TheVariants as decision
 use Rattle.vx_cert.specs.declared.limits.TheConstants.{VERSION_MAX}
 use Rattle.vx_cert.specs.declared.certificate.CertBody.TheVariants.{Soq}
+use Rattle.vx_cert.specs.declared.certificate.CertFigure.{CertFigure}
 use Rattle.vx_cert.specs.declared.certificate.Certificate.{Certificate}
 use Rattle.vx_claims.specs.declared.limits.TheConstants.{SCALE}
 use Rattle.vx_term.specs.Index.{single_ends}
@@ -15,14 +16,19 @@ use Rattle.vx_soq.specs.declared.answer.OpeningAnswer.{OpeningAnswer}
 use Rattle.vx_soq.specs.declared.answer.OpeningAnswer.TheVariants.{Published, Refused, UndecidedForward, UndecidedCents}
 use Rattle.vx_soq.specs.declared.answer.SoqReason.TheVariants.{Term, NegativeVariance}
 
--- the certificate of the figure of a run, for the opening at a line
-abbrev pub opening_certificate : ℕ → ℕ → TermRun SCALE → ℤ → ℤ → ℕ → Certificate
-opening_certificate number minute run low high figure = record {
+-- the certificate of a figure of a run, for the opening at a line and a minute of the day
+abbrev pub certificate_of_run : ℕ → ℕ → TermRun SCALE → CertFigure → Certificate
+certificate_of_run number minute run figure = record {
   v = VERSION_MAX;
   line = number;
   time = minute;
-  body = Soq (certified_term run) (certified_figure (single_ends run.w) low high figure);
+  body = Soq (certified_term run) figure;
 }
+
+-- that of its index's figure, with its ends
+abbrev pub opening_certificate : ℕ → ℕ → TermRun SCALE → ℤ → ℤ → ℕ → Certificate
+opening_certificate line time run low high cents =
+    certificate_of_run line time run (certified_figure (single_ends run.w) low high cents)
 
 -- the answer of a run, for the opening at a line and a minute of the day
 abbrev pub IsFigureAnswer : ℕ → ℕ → TermRun SCALE → OpeningAnswer → Type 0

@@ -30,4 +30,5 @@ IsLawfulOpening events (UndecidedCents lo hi) = LeavesOpeningCents events lo hi
 
 -- the answer to the opening of lawful events is lawful
 abbrev pub OpeningAnswerIsLawful : Type 0
-OpeningAnswerIsLawful = (events : List Event) (answer : OpeningAnswer) → AreLawful events → IsOpeningAnswer events answer → IsLawfulOpening events answer
+OpeningAnswerIsLawful = (events : List Event) (answer : OpeningAnswer) →
+    AreLawful events → IsOpeningAnswer events answer → IsLawfulOpening events answer

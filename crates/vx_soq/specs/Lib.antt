@@ -1,5 +1,7 @@
 pub mod Figures
 pub mod Openings
+pub mod TermPlace
 pub mod Lawful
 pub mod Complete
+pub mod Written
 pub mod Laws

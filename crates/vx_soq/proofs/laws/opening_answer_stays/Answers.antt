@@ -1,0 +1,5 @@
+use Rattle.vx_soq.proofs.Stays.{opening_answer_stays as proof}
+use Rattle.vx_soq.proofs.laws.opening_answer_stays.Goals as goal
+
+pub returns : goal.returns
+returns c = proof
