@@ -1,5 +1,6 @@
 pub mod Rising
 pub mod TableSeries
+pub mod TableTrades
 pub mod TableLists
 pub mod Strikes
 pub mod Decisions
@@ -7,6 +8,11 @@ pub mod Verdicts
 pub mod Pushes
 pub mod NextSeries
 pub mod NextTables
+pub mod NextTrades
+pub mod NextOpening
 pub mod NextBook
-pub mod OverEvents
+pub mod AtTick
+pub mod AtOpening
+pub mod EachKind
+pub mod TermsAreOne
 pub mod Sound

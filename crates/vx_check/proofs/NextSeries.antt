@@ -32,7 +32,7 @@ pub record Keeps (x : Expiry) (events : List Event) (rows : List StrikeRow) (hal
 pub rows_rise : (x : Expiry) (events : List Event) (rows : List StrikeRow) (halves : List Half) → Keeps x events rows halves → Rises row_strike rows
 rows_rise x events rows halves h = subst (λ (l : List StrikeRow). Rises row_strike l) (sym h.rows_are) (listed_rows_rise x events)
 
-row_item : (x : Expiry) (events : List Event) (rows : List StrikeRow) (halves : List Half) → Keeps x events rows halves → (k : ℕ) → item_at row_strike k rows ≡ listed_row x events k
+pub row_item : (x : Expiry) (events : List Event) (rows : List StrikeRow) (halves : List Half) → Keeps x events rows halves → (k : ℕ) → item_at row_strike k rows ≡ listed_row x events k
 row_item x events rows halves h k = ap (item_at row_strike k) h.rows_are ∙ listed_item x events k
 
 -- it keeps them for more events where it has the rows and the single sides of each strike
@@ -118,16 +118,16 @@ and_false false = refl
 own_series : (s : Symbol) (side : Side) (k : ℕ) → is_same_series (series_at (expiry_of s) side k) s ≡ (is_same_side side s.side && (k == s.strike))
 own_series s side k = let r = root_self s.root in let d = number_self s.date.0 in rw (r, d) refl
 
-other_strike : (s : Symbol) (side : Side) (k : ℕ) → k ≢ s.strike → is_same_series (series_at (expiry_of s) side k) s ≡ false
+pub other_strike : (s : Symbol) (side : Side) (k : ℕ) → k ≢ s.strike → is_same_series (series_at (expiry_of s) side k) s ≡ false
 other_strike s side k ne = own_series s side k ∙ ap (λ b. is_same_side side s.side && b) (ne_eqb k s.strike ne) ∙ and_false (is_same_side side s.side)
 
-same_strike : (s : Symbol) (side : Side) → is_same_series (series_at (expiry_of s) side s.strike) s ≡ is_same_side side s.side
+pub same_strike : (s : Symbol) (side : Side) → is_same_series (series_at (expiry_of s) side s.strike) s ≡ is_same_side side s.side
 same_strike s side = own_series s side s.strike ∙ ap (λ b. is_same_side side s.side && b) (eq-eqb s.strike s.strike refl) ∙ and_true (is_same_side side s.side) where
   and_true : (a : Bool) → (a && true) ≡ a
   and_true true = refl
   and_true false = refl
 
-apart_series : (x : Expiry) (s : Symbol) (side : Side) (k : ℕ) → is_same_expiry x (expiry_of s) ≡ false → is_same_series (series_at x side k) s ≡ false
+pub apart_series : (x : Expiry) (s : Symbol) (side : Side) (k : ℕ) → is_same_expiry x (expiry_of s) ≡ false → is_same_series (series_at x side k) s ≡ false
 apart_series x s side k h = false_first (is_same_expiry x (expiry_of s)) (is_same_side side s.side) (k == s.strike) h where
   false_first : (a b c : Bool) → a ≡ false → (a && b && c) ≡ false
   false_first true b c e = absurd (cc e)

@@ -18,7 +18,7 @@ use Rattle.vx_feed.proofs.NextEvent.{next_rate}
 use Rattle.vx_check.specs.declared.table.Half.{Half}
 use Rattle.vx_check.specs.declared.table.Table.{Table}
 use Rattle.vx_check.specs.Kept.{is_table_of}
-use Rattle.vx_check.specs.Tables.{AreBoth, AreRising, IsEmptyTable, IsSameTable, SetsRate, ListsInTable, QuotesInTable, ChangesTable, SameTables, TakesTables, expiry_of_table, price_of, SetsPrice}
+use Rattle.vx_check.specs.Tables.{AreBoth, AreRising, IsEmptyTable, IsSameTable, SetsRate, ListsInTable, QuotesInTable, TradesInTable, ChangesTable, SameTables, TakesTables, expiry_of_table, price_of, SetsPrice}
 use Rattle.vx_check.proofs.Pushes.{not_undeclared, not_duplicate}
 use Rattle.vx_check.proofs.TableLists.{same_expiry, expiry_self}
 use Rattle.vx_check.proofs.NextSeries.{Keeps, IsQuietAt, rows_rise, keeps_quiet, keeps_listed, keeps_quoted, apart_listing, apart_quote}
@@ -69,7 +69,7 @@ found_or x (z ∷ zs) t events y empty h = by_test (is_table_of x z) (found_or x
 
 -- ---- the table of a declared expiry is there
 
-none_declared : (x : Expiry) (tables : List Table) → find (is_table_of x) tables ≡ None → list_any (is_same_expiry x) (map expiry_of_table tables) ≡ false
+pub none_declared : (x : Expiry) (tables : List Table) → find (is_table_of x) tables ≡ None → list_any (is_same_expiry x) (map expiry_of_table tables) ≡ false
 none_declared x [] h = refl
 none_declared x (z ∷ zs) h = by_test (is_table_of x z) (none_declared x zs) h where
   by_test : (b : Bool) → (find (is_table_of x) zs ≡ None → list_any (is_same_expiry x) (map expiry_of_table zs) ≡ false)
@@ -80,6 +80,14 @@ none_declared x (z ∷ zs) h = by_test (is_table_of x z) (none_declared x zs) h 
 yes_from_not : (b : Bool) → not b ≡ false → b ≡ true
 yes_from_not true h = refl
 yes_from_not false h = absurd (cc h)
+
+pub declared_if_there : (x : Expiry) (tables : List Table) (t : Table) → find (is_table_of x) tables ≡ Some t → list_any (is_same_expiry x) (map expiry_of_table tables) ≡ true
+declared_if_there x [] t h = absurd (cc h)
+declared_if_there x (z ∷ zs) t h = by_test (is_table_of x z) (declared_if_there x zs t) h where
+  by_test : (b : Bool) → (find (is_table_of x) zs ≡ Some t → list_any (is_same_expiry x) (map expiry_of_table zs) ≡ true)
+      → cond b (Some z) (find (is_table_of x) zs) ≡ Some t → (b || list_any (is_same_expiry x) (map expiry_of_table zs)) ≡ true
+  by_test true more h = refl
+  by_test false more h = more h
 
 declared_there : (x : Expiry) (tables : List Table) (events : List Event) → map expiry_of_table tables ≡ declared_expiries events → not (is_declared x events) ≡ false → find (is_table_of x) tables ≢ None
 declared_there x tables events same declared none =
@@ -142,6 +150,22 @@ says_quoted (Some t) (Some u) time s bid ask events low high both h =
       keeps = keeps_quoted time s bid ask events t.rows.items u.rows.items t.halves.items u.halves.items h.keeps (both.series low high rising);
     }
 
+-- ---- a trade
+
+says_traded : (o new : Option Table) (time : ℕ) (s : Symbol) (cents : ℕ) (events : List Event)
+    → AreBoth (TradesInTable s.side s.strike cents) o new → Says o (expiry_of s) events → Says new (expiry_of s) (events ++ event.Trade time s cents ∷ [])
+says_traded None None time s cents events both h = says_quiet None (expiry_of s) events (event.Trade time s cents) refl (λ k side. (refl, refl)) h
+says_traded None (Some u) time s cents events both h = absurd both
+says_traded (Some t) None time s cents events both h = absurd both
+says_traded (Some t) (Some u) time s cents events both h =
+    let x = expiry_of s in
+    let e = event.Trade time s cents in
+    record {
+      rate_is = both.rate ∙ h.rate_is ∙ sym (rate_as_before x events e refl);
+      keeps = keeps_quiet x events e u.rows.items u.halves.items (λ k side. (refl, refl))
+          (same_keeps x events t.rows.items u.rows.items t.halves.items u.halves.items both.rows both.halves h.keeps);
+    }
+
 -- ---- any event
 
 abbrev pub AllSay : List Table → List Event → Type 0
@@ -165,28 +189,33 @@ same_all : (old new : List Table) (events : List Event) (e : Event) → ((x : Ex
 same_all old new events e none quiet same all x =
     subst (λ (l : List Table). Says (find (is_table_of x) l) x (events ++ e ∷ [])) (sym same) (says_quiet (find (is_table_of x) old) x events e (none x) (quiet x) (all x))
 
-pub all_say_after : (old new : List Table) (events : List Event) (e : Event) → IsLawfulNext events e → map expiry_of_table old ≡ declared_expiries events → TakesTables e old new → AllSay old events → AllSay new (events ++ e ∷ [])
-all_say_after old new events (event.Header day) lawful same h all = same_all old new events (event.Header day) (λ x. refl) (λ x k side. (refl, refl)) h all
-all_say_after old new events (event.Trade time s price) lawful same h all = same_all old new events (event.Trade time s price) (λ x. refl) (λ x k side. (refl, refl)) h all
-all_say_after old new events (event.Tick time) lawful same h all = same_all old new events (event.Tick time) (λ x. refl) (λ x k side. (refl, refl)) h all
-all_say_after old new events (event.Opening time) lawful same h all = same_all old new events (event.Opening time) (λ x. refl) (λ x k side. (refl, refl)) h all
-all_say_after old new events (event.End count) lawful same h all = same_all old new events (event.End count) (λ x. refl) (λ x k side. (refl, refl)) h all
-all_say_after old new events (event.Expiry y) lawful same h all = λ x.
+pub all_say_after : (opened : Bool) (old new : List Table) (events : List Event) (e : Event)
+    → IsLawfulNext events e → map expiry_of_table old ≡ declared_expiries events → TakesTables opened e old new → AllSay old events → AllSay new (events ++ e ∷ [])
+all_say_after opened old new events (event.Header day) lawful same h all = same_all old new events (event.Header day) (λ x. refl) (λ x k side. (refl, refl)) h all
+all_say_after true old new events (event.Trade time s price) lawful same h all = same_all old new events (event.Trade time s price) (λ x. refl) (λ x k side. (refl, refl)) h all
+all_say_after false old new events (event.Trade time s price) lawful same h all =
+    let y = expiry_of s in
+    all_after y (TradesInTable s.side s.strike price) old new events (event.Trade time s price) h (λ x apart. refl) (λ x apart k side. (refl, refl))
+    (says_traded (find (is_table_of y) old) (find (is_table_of y) new) time s price events h.own (all y)) all
+all_say_after opened old new events (event.Tick time) lawful same h all = same_all old new events (event.Tick time) (λ x. refl) (λ x k side. (refl, refl)) h all
+all_say_after opened old new events (event.Opening time) lawful same h all = same_all old new events (event.Opening time) (λ x. refl) (λ x k side. (refl, refl)) h all
+all_say_after opened old new events (event.End count) lawful same h all = same_all old new events (event.End count) (λ x. refl) (λ x k side. (refl, refl)) h all
+all_say_after opened old new events (event.Expiry y) lawful same h all = λ x.
     let e = event.Expiry y in
     subst (λ (l : List Table). Says (find (is_table_of x) l) x (events ++ e ∷ [])) (sym h.added)
     (found_or x old h.table (events ++ e ∷ []) y h.is_empty (says_quiet (find (is_table_of x) old) x events e refl (λ k side. (refl, refl)) (all x)))
-all_say_after old new events (event.Rate y rate) lawful same h all =
+all_say_after opened old new events (event.Rate y rate) lawful same h all =
     let e = event.Rate y rate in
     let there = declared_there y old events same (not_undeclared events e lawful) in
     all_after y (SetsRate rate) old new events e h (λ x apart. unsaid (is_same_expiry x y) rate apart) (λ x apart k side. (refl, refl))
     (says_rate (find (is_table_of y) old) (find (is_table_of y) new) y rate events there h.own (all y)) all
-all_say_after old new events (event.Series s) lawful same h all =
+all_say_after opened old new events (event.Series s) lawful same h all =
     let e = event.Series s in
     let y = expiry_of s in
     let there = declared_there y old events same (not_undeclared events e lawful) in
     all_after y (ListsInTable s.side s.strike) old new events e h (λ x apart. refl) (λ x apart. apart_listing x s apart)
     (says_listed (find (is_table_of y) old) (find (is_table_of y) new) s events (not_duplicate events e lawful) there h.own (all y)) all
-all_say_after old new events (event.Quote time s bid ask) lawful same h all =
+all_say_after opened old new events (event.Quote time s bid ask) lawful same h all =
     let e = event.Quote time s bid ask in
     let y = expiry_of s in
     let range = lawful.in_range in
@@ -206,16 +235,17 @@ expiries_added (z ∷ zs) t y e = ap (λ l. z.expiry ∷ l) (expiries_added zs t
 same_or_more : (old new : List Table) → map expiry_of_table new ≡ map expiry_of_table old → map expiry_of_table new ≡ map expiry_of_table old ++ []
 same_or_more old new e = e ∙ sym (nothing_more (map expiry_of_table old))
 
-pub expiries_after : (old new : List Table) (e : Event) → TakesTables e old new → map expiry_of_table new ≡ map expiry_of_table old ++ option_to_list (declared_expiry e)
-expiries_after old new (event.Header day) h = same_or_more old new (ap (map expiry_of_table) h)
-expiries_after old new (event.Trade time s price) h = same_or_more old new (ap (map expiry_of_table) h)
-expiries_after old new (event.Tick time) h = same_or_more old new (ap (map expiry_of_table) h)
-expiries_after old new (event.Opening time) h = same_or_more old new (ap (map expiry_of_table) h)
-expiries_after old new (event.End count) h = same_or_more old new (ap (map expiry_of_table) h)
-expiries_after old new (event.Expiry y) h = ap (map expiry_of_table) h.added ∙ expiries_added old h.table y h.is_empty.expiry
-expiries_after old new (event.Rate y rate) h = same_or_more old new h.expiries
-expiries_after old new (event.Series s) h = same_or_more old new h.expiries
-expiries_after old new (event.Quote time s bid ask) h = same_or_more old new h.expiries
+pub expiries_after : (opened : Bool) (old new : List Table) (e : Event) → TakesTables opened e old new → map expiry_of_table new ≡ map expiry_of_table old ++ option_to_list (declared_expiry e)
+expiries_after opened old new (event.Header day) h = same_or_more old new (ap (map expiry_of_table) h)
+expiries_after true old new (event.Trade time s price) h = same_or_more old new (ap (map expiry_of_table) h)
+expiries_after false old new (event.Trade time s price) h = same_or_more old new h.expiries
+expiries_after opened old new (event.Tick time) h = same_or_more old new (ap (map expiry_of_table) h)
+expiries_after opened old new (event.Opening time) h = same_or_more old new (ap (map expiry_of_table) h)
+expiries_after opened old new (event.End count) h = same_or_more old new (ap (map expiry_of_table) h)
+expiries_after opened old new (event.Expiry y) h = ap (map expiry_of_table) h.added ∙ expiries_added old h.table y h.is_empty.expiry
+expiries_after opened old new (event.Rate y rate) h = same_or_more old new h.expiries
+expiries_after opened old new (event.Series s) h = same_or_more old new h.expiries
+expiries_after opened old new (event.Quote time s bid ask) h = same_or_more old new h.expiries
 
 -- ---- nothing changed
 

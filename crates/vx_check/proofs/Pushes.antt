@@ -7,7 +7,7 @@ use Rattle.vx_feed.specs.declared.events.Event.TheVariants as event
 use Rattle.vx_feed.specs.declared.faults.FeedFault.{FeedFault}
 use Rattle.vx_feed.specs.declared.limits.TheConstants.{LINES_MAX}
 use Rattle.vx_feed.specs.Listed.{trade_date, header_day, declared_expiries, declared_expiry}
-use Rattle.vx_feed.specs.Order.{IsLawfulNext, first_fault, order_causes, is_header, is_misplaced, has_too_many_expiries, has_too_many_strikes, is_undeclared, is_duplicate_series}
+use Rattle.vx_feed.specs.Order.{IsLawfulNext, first_fault, order_causes, is_header, is_misplaced, has_too_many_expiries, has_too_many_strikes, is_undeclared, is_duplicate_series, is_second_opening}
 use Rattle.vx_feed.proofs.NextEvent.{next_trade_date, next_declared}
 use Rattle.vx_check.specs.StandsFor.{last_event}
 
@@ -47,6 +47,10 @@ not_undeclared events e h = (no_cause (order_causes events e) h.in_order).1.1.1.
 -- no series is listed twice
 pub not_duplicate : (events : List Event) (e : Event) → IsLawfulNext events e → is_duplicate_series events e ≡ false
 not_duplicate events e h = (no_cause (order_causes events e) h.in_order).1.1.1.1.0
+
+-- no opening is taken twice
+pub not_second : (events : List Event) (e : Event) → IsLawfulNext events e → is_second_opening events e ≡ false
+not_second events e h = (no_cause (order_causes events e) h.in_order).1.1.1.1.1.1.1.1.1.0
 
 -- ---- the parts after one event more
 

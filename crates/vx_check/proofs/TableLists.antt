@@ -136,7 +136,7 @@ none_changed x R xs e = record { expiries = refl; others = λ y apart. refl; own
 
 same_itself : (o : Option Table) → AreBoth IsSameTable o o
 same_itself None = tt
-same_itself (Some table) = record { expiry = refl; rate = refl; rows = refl; halves = refl }
+same_itself (Some table) = record { expiry = refl; rate = refl; rows = refl; halves = refl; trades = refl }
 
 pub same_tables : (xs ys : List Table) → ys ≡ xs → SameTables xs ys
 same_tables xs ys e = subst (λ (l : List Table). SameTables xs l) (sym e) (record { expiries = refl; each = λ x. same_itself (find (is_table_of x) xs) })

@@ -8,6 +8,7 @@ use Rattle.vx_feed.specs.Same.{is_same_expiry}
 use Rattle.vx_check.specs.declared.book.PlainBook.{PlainBook}
 use Rattle.vx_check.specs.declared.table.Half.{Half}
 use Rattle.vx_check.specs.declared.table.Table.{Table}
+use Rattle.vx_check.specs.declared.trades.FirstTrades.{FirstTrades}
 
 -- the expiry is among the declared ones
 abbrev pub is_kept : Expiry → PlainBook → Bool
@@ -31,3 +32,7 @@ kept_rows x book = option_map_or (λ (table : Table). table.rows.items) (kept_ta
 -- its strikes of which one side is listed
 abbrev pub kept_halves : Expiry → PlainBook → List Half
 kept_halves x book = option_map_or (λ (table : Table). table.halves.items) (kept_table x book) []
+
+-- the first trades of its series
+abbrev pub kept_trades : Expiry → PlainBook → List FirstTrades
+kept_trades x book = option_map_or (λ (table : Table). table.trades.items) (kept_table x book) []

@@ -1,7 +1,10 @@
 pub mod Rising
 pub mod Kept
+pub mod Trades
 pub mod Tables
+pub mod Opening
 pub mod NextRows
-pub mod LevelTests
 pub mod Answers
+pub mod Numbers
 pub mod StandsFor
+pub mod Reached

@@ -1,17 +1,22 @@
 -- The book stands for a list of events. This project's own.
-use Rattle.std.specs.Prelude.{◌≡◌, ℕ, Bool, true, false, List, [], ◌∷◌, ◌++◌, length, map, Option, Some, None, option_and_then, option_to_list}
+use Rattle.std.specs.Prelude.{◌≡◌, ℕ, Bool, true, false, List, [], ◌∷◌, ◌++◌, length, map, Option, Some, None, MatchOption, is_some, option_map, option_and_then, option_to_list}
 use Rattle.std.specs.Option.{option_or}
 use Rattle.vx_clock.specs.declared.terms.Expiry.{Expiry}
+use Rattle.vx_symbol.specs.declared.symbols.Side.{Side}
 use Rattle.vx_symbol.specs.declared.symbols.Side.TheVariants.{Call, Put}
 use Rattle.vx_symbol.specs.declared.rows.Price.{Price}
 use Rattle.vx_feed.specs.declared.events.Event.{Event}
 use Rattle.vx_feed.specs.declared.events.Event.TheVariants as event
-use Rattle.vx_feed.specs.Standing.{standing_rate}
+use Rattle.vx_feed.specs.Standing.{opening_trade, standing_rate}
 use Rattle.vx_feed.specs.Listed.{trade_date, header_day, declared_expiries, declared_expiry, is_listed, series_at, standing_price, listed_rows}
+use Rattle.vx_feed.specs.Opening.{opening_time}
 use Rattle.vx_check.specs.declared.book.PlainBook.{PlainBook}
 use Rattle.vx_check.specs.declared.table.Half.{Half}
+use Rattle.vx_check.specs.declared.trades.FirstTrades.{FirstTrades}
 use Rattle.vx_check.specs.Rising.{Rises, item_at}
-use Rattle.vx_check.specs.Kept.{kept_rate, kept_rows, kept_halves}
+use Rattle.vx_check.specs.Kept.{kept_rate, kept_rows, kept_halves, kept_trades}
+use Rattle.vx_check.specs.Trades.{trades_strike, price_of_trade, traded_at}
+use Rattle.vx_check.specs.Opening.{IsOpeningOfEvents, ChangesOpening}
 use Rattle.vx_check.specs.Tables.{half_strike, expiry_of_table, TakesTables, SameTables}
 
 -- the last event
@@ -43,8 +48,15 @@ pub record AreListedHalves (x : Expiry) (events : List Event) (halves : List Hal
   pub rises : Rises half_strike halves
   pub each : (strike : ℕ) → item_at half_strike strike halves ≡ listed_half x events strike
 
--- the book keeps all that the events say of its number, the trade date, the expiries, their rates and
--- their listed rows, and whether the last of them is a tick
+-- the strikes of which a series traded since it was listed and before the opening, in rising order, with the price of the first
+-- such trade of each side
+pub record AreFirstTrades (x : Expiry) (events : List Event) (trades : List FirstTrades) : Type 0 where
+  pub rises : Rises trades_strike trades
+  pub each : (side : Side) (strike : ℕ)
+      → traded_at side strike trades ≡ option_map price_of_trade (opening_trade (series_at x side strike) events)
+
+-- the book keeps all that the events say of its number, the trade date, the expiries, their rates, their listed rows and the
+-- first trades of their series, of the opening, and whether the last of them is a tick
 pub record StandsFor (book : PlainBook) (events : List Event) : Type 0 where
   pub lines : book.lines ≡ length events
   pub day : book.day ≡ trade_date events
@@ -54,13 +66,16 @@ pub record StandsFor (book : PlainBook) (events : List Event) : Type 0 where
   pub rate : (x : Expiry) → kept_rate x book ≡ standing_rate x events
   pub rows : (x : Expiry) → kept_rows x book ≡ listed_rows x events
   pub halves : (x : Expiry) → AreListedHalves x events (kept_halves x book)
+  pub trades : (x : Expiry) → AreFirstTrades x events (kept_trades x book)
+  pub opening : MatchOption book.opening (opening_time events ≡ None) (IsOpeningOfEvents events)
 
--- what an event changes of the trade date, the expiries and their tables; the rest stays
+-- what an event changes of the trade date, the expiries, their tables and the opening; the rest stays
 pub record Takes (old : PlainBook) (e : Event) (new : PlainBook) : Type 0 where
   pub lines : new.lines ≡ old.lines
   pub day : new.day ≡ option_or (header_day e) old.day
   pub expiries : new.expiries.items ≡ old.expiries.items ++ option_to_list (declared_expiry e)
-  pub tables : TakesTables e old.tables.items new.tables.items
+  pub tables : TakesTables (is_some old.opening) e old.tables.items new.tables.items
+  pub opening : ChangesOpening old e new.opening
 
 -- the book says what it said
 pub record IsSameBook (old new : PlainBook) : Type 0 where
@@ -69,3 +84,4 @@ pub record IsSameBook (old new : PlainBook) : Type 0 where
   pub tick : new.tick ≡ old.tick
   pub expiries : new.expiries.items ≡ old.expiries.items
   pub tables : SameTables old.tables.items new.tables.items
+  pub opening : new.opening ≡ old.opening

@@ -1,8 +1,9 @@
 -- What an event changes of the table of its expiry. This project's own.
-use Rattle.std.specs.Prelude.{◌≡◌, ℕ, zero, suc, ℤ, Bool, true, false, List, [], ◌∷◌, ◌++◌, map, Option, Some, None, option_map, if◌then◌else◌, find}
+use Rattle.std.specs.Prelude.{◌≡◌, ℕ, zero, suc, ℤ, Bool, true, false, List, [], ◌∷◌, ◌++◌, map, Option, Some, None, MatchOption, option_map, if◌then◌else◌, find}
 use Rattle.vx_clock.specs.declared.terms.Expiry.{Expiry}
 use Rattle.vx_symbol.specs.declared.symbols.Side.{Side}
 use Rattle.vx_symbol.specs.declared.symbols.Side.TheVariants.{Call, Put}
+use Rattle.vx_symbol.specs.declared.symbols.Symbol.{Symbol}
 use Rattle.vx_symbol.specs.declared.rows.Price.{Price}
 use Rattle.vx_symbol.specs.declared.rows.StrikeRow.{StrikeRow}
 use Rattle.vx_feed.specs.declared.events.Event.{Event}
@@ -15,6 +16,7 @@ use Rattle.vx_check.specs.declared.table.Half.{Half}
 use Rattle.vx_check.specs.declared.table.Table.{Table}
 use Rattle.vx_check.specs.Kept.{is_table_of}
 use Rattle.vx_check.specs.Rising.{Rises, item_at, IsWith}
+use Rattle.vx_check.specs.Trades.{trades_strike, price_of_trade, is_listed_in, SetsTrade}
 
 abbrev pub row_strike : StrikeRow → ℕ
 row_strike row = row.strike
@@ -62,23 +64,29 @@ pub record AreRising (table : Table) : Type 0 where
   pub rows : Rises row_strike table.rows.items
   pub halves : Rises half_strike table.halves.items
 
+abbrev pub AreTradesRising : Table → Type 0
+AreTradesRising table = Rises trades_strike table.trades.items
+
 pub record IsEmptyTable (x : Expiry) (table : Table) : Type 0 where
   pub expiry : table.expiry ≡ x
   pub rate : table.rate ≡ None
   pub rows : table.rows.items ≡ []
   pub halves : table.halves.items ≡ []
+  pub trades : table.trades.items ≡ []
 
 pub record IsSameTable (old new : Table) : Type 0 where
   pub expiry : new.expiry ≡ old.expiry
   pub rate : new.rate ≡ old.rate
   pub rows : new.rows.items ≡ old.rows.items
   pub halves : new.halves.items ≡ old.halves.items
+  pub trades : new.trades.items ≡ old.trades.items
 
 pub record SetsRate (rate : ℤ) (old new : Table) : Type 0 where
   pub expiry : new.expiry ≡ old.expiry
   pub rate_is : new.rate ≡ Some rate
   pub rows : new.rows.items ≡ old.rows.items
   pub halves : new.halves.items ≡ old.halves.items
+  pub trades : new.trades.items ≡ old.trades.items
 
 -- what listing a series changes of the lists of rows and of single sides
 pub record ListsSeries (side : Side) (strike : ℕ) (rows new_rows : List StrikeRow) (halves new_halves : List Half) : Type 0 where
@@ -93,19 +101,45 @@ pub record SetsPrice (side : Side) (strike : ℕ) (price : Price) (rows new_rows
 pub record ListsInTable (side : Side) (strike : ℕ) (old new : Table) : Type 0 where
   pub expiry : new.expiry ≡ old.expiry
   pub rate : new.rate ≡ old.rate
+  pub trades : new.trades.items ≡ old.trades.items
   pub series : AreRising old → ListsSeries side strike old.rows.items new.rows.items old.halves.items new.halves.items
 
 pub record SetsPriceInTable (side : Side) (strike : ℕ) (price : Price) (old new : Table) : Type 0 where
   pub expiry : new.expiry ≡ old.expiry
   pub rate : new.rate ≡ old.rate
+  pub trades : new.trades.items ≡ old.trades.items
   pub series : AreRising old → SetsPrice side strike price old.rows.items new.rows.items old.halves.items new.halves.items
 
 -- what a quote changes of the table of its expiry
 pub record QuotesInTable (side : Side) (strike bid ask : ℕ) (old new : Table) : Type 0 where
   pub expiry : new.expiry ≡ old.expiry
   pub rate : new.rate ≡ old.rate
+  pub trades : new.trades.items ≡ old.trades.items
   pub series : IsPrice bid → IsPrice ask → AreRising old
       → SetsPrice side strike (price_of bid ask) old.rows.items new.rows.items old.halves.items new.halves.items
+
+-- the series of a side and a strike is listed in the table
+abbrev pub is_listed_in_table : Side → ℕ → Table → Bool
+is_listed_in_table side strike table =
+    is_listed_in side (item_at row_strike strike table.rows.items) (item_at half_strike strike table.halves.items)
+
+-- what a trade at this price changes of a table: of a series that is not listed in it, nothing
+pub record SetsTradeInTable (side : Side) (strike : ℕ) (price : Price) (old new : Table) : Type 0 where
+  pub expiry : new.expiry ≡ old.expiry
+  pub rate : new.rate ≡ old.rate
+  pub rows : new.rows.items ≡ old.rows.items
+  pub halves : new.halves.items ≡ old.halves.items
+  pub sets : AreRising old → AreTradesRising old
+      → SetsTrade (is_listed_in_table side strike old) side strike price old.trades.items new.trades.items
+
+-- what a trade changes of the table of its expiry
+pub record TradesInTable (side : Side) (strike cents : ℕ) (old new : Table) : Type 0 where
+  pub expiry : new.expiry ≡ old.expiry
+  pub rate : new.rate ≡ old.rate
+  pub rows : new.rows.items ≡ old.rows.items
+  pub halves : new.halves.items ≡ old.halves.items
+  pub sets : IsPrice cents → AreRising old → AreTradesRising old
+      → SetsTrade (is_listed_in_table side strike old) side strike (price_of_trade cents) old.trades.items new.trades.items
 
 -- ---- the tables of all expiries
 
@@ -115,8 +149,12 @@ IsFirstAt test place [] = ⊥
 IsFirstAt test zero (x ∷ xs) = test x ≡ true
 IsFirstAt test (suc place) (x ∷ xs) = (test x ≡ false) × IsFirstAt test place xs
 
+-- the place of the first item that passes the test, or none where none passes
+abbrev pub IsFirstPlace : {X : Type 0} → (X → Bool) → List X → Option ℕ → Type 0
+IsFirstPlace test xs place = MatchOption place (find test xs ≡ None) (λ n. IsFirstAt test n xs)
+
 -- there is none before and none after, or both are related
-abbrev pub AreBoth : {X : Type 0} → (X → X → Type 0) → Option X → Option X → Type 0
+abbrev pub AreBoth : {X Y : Type 0} → (X → Y → Type 0) → Option X → Option Y → Type 0
 AreBoth R None None = Unit {0}
 AreBoth R (Some a) (Some b) = R a b
 AreBoth R _ _ = ⊥
@@ -141,10 +179,26 @@ pub record AddsTable (x : Expiry) (old new : List Table) : Type 0 where
   pub is_empty : IsEmptyTable x table
   pub added : new ≡ old ++ table ∷ []
 
--- what an event changes
-abbrev pub TakesTables : Event → List Table → List Table → Type 0
-TakesTables (event.Expiry x) old new = AddsTable x old new
-TakesTables (event.Rate x rate) old new = ChangesTable x (SetsRate rate) old new
-TakesTables (event.Series s) old new = ChangesTable (expiry_of s) (ListsInTable s.side s.strike) old new
-TakesTables (event.Quote time s bid ask) old new = ChangesTable (expiry_of s) (QuotesInTable s.side s.strike bid ask) old new
-TakesTables _ old new = new ≡ old
+-- a series is listed, is quoted, or trades before the opening
+abbrev pub ListsIn : Symbol → List Table → List Table → Type 0
+ListsIn s old new = ChangesTable (expiry_of s) (ListsInTable s.side s.strike) old new
+
+abbrev pub QuotesIn : Symbol → ℕ → ℕ → List Table → List Table → Type 0
+QuotesIn s bid ask old new = ChangesTable (expiry_of s) (QuotesInTable s.side s.strike bid ask) old new
+
+abbrev pub TradesIn : Symbol → ℕ → List Table → List Table → Type 0
+TradesIn s cents old new = ChangesTable (expiry_of s) (TradesInTable s.side s.strike cents) old new
+
+-- what a trade changes, by whether the opening was taken: after it nothing
+abbrev pub ChangesByTrade : Bool → Symbol → ℕ → List Table → List Table → Type 0
+ChangesByTrade true s cents old new = new ≡ old
+ChangesByTrade false s cents old new = TradesIn s cents old new
+
+-- what an event changes, by whether the opening was taken
+abbrev pub TakesTables : Bool → Event → List Table → List Table → Type 0
+TakesTables opened (event.Expiry x) old new = AddsTable x old new
+TakesTables opened (event.Rate x rate) old new = ChangesTable x (SetsRate rate) old new
+TakesTables opened (event.Series s) old new = ListsIn s old new
+TakesTables opened (event.Quote time s bid ask) old new = QuotesIn s bid ask old new
+TakesTables opened (event.Trade time s cents) old new = ChangesByTrade opened s cents old new
+TakesTables opened _ old new = new ≡ old

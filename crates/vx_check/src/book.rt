@@ -1,14 +1,14 @@
-ghost use Rattle.std.specs.Prelude.{◌≡◌, ◌<◌, [], ◌∷◌, ◌++◌, List, length, None, IfOk, IfSome, OnOk, OnErr, MatchOption, option_map, find};
-ghost use Rattle.std.specs.List.{position};
+//! What the events of a feed so far say.
+
+ghost use Rattle.std.specs.Prelude.{◌≡◌, ℕ, [], ◌∷◌, ◌++◌, List, IfOk, OnOk, OnErr, option_map};
 ghost use Rattle.vx_feed.specs.declared.events.Event.{Event};
-ghost use Rattle.vx_feed.specs.Listed.{expiry_of};
 ghost use Rattle.vx_feed.specs.Order.{IsLawfulNext};
 ghost use Rattle.vx_check.specs.StandsFor.{StandsFor, Takes, IsSameBook, tick_minute};
-ghost use Rattle.vx_check.specs.Tables.{IsFirstAt, ListsInTable, SetsRate, QuotesInTable, ChangesTable, SameTables};
-ghost use Rattle.vx_check.specs.Kept.{is_table_of, kept_rate, kept_rows};
+ghost use Rattle.vx_check.specs.Kept.{kept_rate, kept_rows};
 
-use crate::table;
+use crate::opening::Opening;
 use crate::table::Table;
+use crate::tables;
 use std::alloc::Global;
 use vx_clock::{DayNo, Expiry};
 use vx_feed::Event;
@@ -16,8 +16,9 @@ use vx_feed::limits::EXPIRIES_MAX;
 use vx_num::NoMemory;
 use vx_symbol::{StrikeRow, Symbol};
 
-/// What the events of a feed so far say: one table of series, rates and rows for each expiry. It
-/// stands for the list of events pushed, and keeps none of them.
+/// What the events of a feed so far say: one table of series, rates, rows and first trades for each
+/// expiry, and the opening once it was taken. It stands for the list of events pushed, and keeps none
+/// of them.
 #[derive(Debug, Drop)]
 pub struct PlainBook {
     lines: u64,
@@ -26,6 +27,7 @@ pub struct PlainBook {
     expiries: Vec<Expiry>,
     // One for each expiry, in the same order.
     tables: Vec<Table>,
+    opening: Option<Opening>,
     alloc: Global,
 }
 
@@ -40,6 +42,7 @@ impl PlainBook {
             tick: None,
             expiries: Vec::with_capacity(alloc, EXPIRIES_MAX).map_err(|_| NoMemory)?,
             tables: Vec::with_capacity(alloc, EXPIRIES_MAX).map_err(|_| NoMemory)?,
+            opening: None,
             alloc,
         })
     }
@@ -55,7 +58,7 @@ impl PlainBook {
         Ok(())
     }
 
-    /// Takes what an event says of the trade date, the expiries and their series.
+    /// Takes what an event says of the trade date, the expiries, their series and the opening.
     fn take(&mut self, e: Event) -> Result<(), NoMemory>
         ensures taken { OnOk result (Takes self.old e self.new) }
         ensures refused { OnErr result (IsSameBook self.old self.new) }
@@ -66,9 +69,9 @@ impl PlainBook {
                 Ok(())
             }
             Event::Expiry(expiry) => self.declare(expiry),
-            Event::Series(symbol) => list(self.tables.as_mut_slice(), &symbol),
+            Event::Series(symbol) => tables::list(self.tables.as_mut_slice(), &symbol),
             Event::Rate { expiry, rate } => {
-                set_rate(self.tables.as_mut_slice(), expiry, rate);
+                tables::set_rate(self.tables.as_mut_slice(), expiry, rate);
                 Ok(())
             }
             Event::Quote {
@@ -77,10 +80,12 @@ impl PlainBook {
                 ask,
                 ..
             } => {
-                quote(self.tables.as_mut_slice(), &symbol, bid, ask);
+                tables::quote(self.tables.as_mut_slice(), &symbol, bid, ask);
                 Ok(())
             }
-            _ => Ok(()),
+            Event::Trade { symbol, price, .. } => self.trade(&symbol, price),
+            Event::Opening { time } => self.open(time),
+            Event::Tick { .. } | Event::End { .. } => Ok(()),
         }
     }
 
@@ -116,7 +121,7 @@ impl PlainBook {
     pub fn rate(&self, e: Expiry) -> Option<i32>
         ensures { result ≡ kept_rate e self.now }
     {
-        match find_table(&self.tables, e) {
+        match tables::find_table(&self.tables, e) {
             Some(table) => table.rate,
             None => None,
         }
@@ -126,10 +131,17 @@ impl PlainBook {
     pub fn rows(&self, e: Expiry) -> &[StrikeRow]
         ensures { result.now ≡ kept_rows e self.now }
     {
-        match find_table(&self.tables, e) {
+        match tables::find_table(&self.tables, e) {
             Some(table) => table.rows(),
             None => &[],
         }
+    }
+
+    /// The opening, once it was taken.
+    pub fn opening(&self) -> Option<&Opening>
+        ensures { option_map (λ opening. opening.now) result ≡ self.now.opening }
+    {
+        self.opening.as_ref()
     }
 
     fn declare(&mut self, expiry: Expiry) -> Result<(), NoMemory>
@@ -145,6 +157,32 @@ impl PlainBook {
         }
         Ok(())
     }
+
+    /// Keeps a trade before the opening, if it is the first of its series; a later one says nothing.
+    fn trade(&mut self, symbol: &Symbol, cents: u32) -> Result<(), NoMemory>
+        ensures taken { (time : ℕ) → OnOk result (Takes self.old (Event.Trade time symbol.now cents) self.new) }
+        ensures refused { OnErr result (IsSameBook self.old self.new) }
+    {
+        if self.opening.is_some() {
+            return Ok(());
+        }
+        tables::trade(self.tables.as_mut_slice(), symbol, cents)
+    }
+
+    /// Takes the opening over what the book keeps.
+    fn open(&mut self, time: u16) -> Result<(), NoMemory>
+        ensures taken { OnOk result (Takes self.old (Event.Opening time) self.new) }
+        ensures refused { OnErr result (IsSameBook self.old self.new) }
+    {
+        let term = tables::opening_term(self.alloc, &self.tables, self.day)?;
+        self.opening = Some(Opening {
+            line: self.lines.saturating_add(1),
+            time,
+            expiries: self.expiries.len(),
+            term,
+        });
+        Ok(())
+    }
 }
 
 /// The minute of a tick.
@@ -154,60 +192,5 @@ fn tick_minute(e: Event) -> Option<u16>
     match e {
         Event::Tick { time } => Some(time),
         _ => None,
-    }
-}
-
-/// Where the table of an expiry stands, if it has one.
-fn place_of(tables: &[Table], expiry: Expiry) -> Option<usize>
-    ensures within { IfSome result (λ place. place < length tables.now) }
-    ensures first { MatchOption result (find (is_table_of expiry) tables.now ≡ None) (λ place. IsFirstAt (is_table_of expiry) place tables.now) }
-{
-    position_of(tables, expiry)
-}
-
-fn position_of(tables: &[Table], expiry: Expiry) -> Option<usize>
-    ensures { result ≡ position (is_table_of expiry) tables.now }
-{
-    tables.iter().position(|table| expiry == table.expiry)
-}
-
-fn list(tables: &mut [Table], symbol: &Symbol) -> Result<(), NoMemory>
-    ensures listed { OnOk result (ChangesTable (expiry_of symbol.now) (ListsInTable symbol.now.side symbol.now.strike) tables.old tables.new) }
-    ensures refused { OnErr result (SameTables tables.old tables.new) }
-{
-    match place_of(tables, expiry_of(symbol)) {
-        Some(place) => tables[place].list(symbol.side, symbol.strike),
-        None => Ok(()),
-    }
-}
-
-fn set_rate(tables: &mut [Table], expiry: Expiry, rate: i32)
-    ensures { ChangesTable expiry (SetsRate rate) tables.old tables.new }
-{
-    if let Some(place) = place_of(tables, expiry) {
-        tables[place].rate = Some(rate);
-    }
-}
-
-fn quote(tables: &mut [Table], symbol: &Symbol, bid: u32, ask: u32)
-    ensures { ChangesTable (expiry_of symbol.now) (QuotesInTable symbol.now.side symbol.now.strike bid ask) tables.old tables.new }
-{
-    if let Some(place) = place_of(tables, expiry_of(symbol)) {
-        tables[place].set_price(symbol.side, symbol.strike, table::quoted(bid, ask));
-    }
-}
-
-fn find_table(tables: &[Table], expiry: Expiry) -> Option<&Table>
-    ensures { option_map (λ table. table.now) result ≡ find (is_table_of expiry) tables.now }
-{
-    tables.iter().find(|table| expiry == table.expiry)
-}
-
-fn expiry_of(symbol: &Symbol) -> Expiry
-    ensures { result ≡ expiry_of symbol.now }
-{
-    Expiry {
-        root: symbol.root,
-        date: symbol.date,
     }
 }

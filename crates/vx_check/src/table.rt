@@ -1,30 +1,30 @@
 //! The series of one expiry, in rising order of strike.
 
-ghost use Rattle.std.specs.Prelude.{◌≡◌, ◌≤◌, ◌<◌, length, Some, OnOk, OnErr, MatchResult, nat_lt, option_map, true, false};
-ghost use Rattle.std.specs.List.Sorted.{IsPartitionPoint};
-ghost use Rattle.vx_feed.specs.Ranges.{IsPrice};
-ghost use Rattle.vx_check.specs.Rising.{Rises, StandsAt, FitsAt, IsWith, item_at};
-ghost use Rattle.vx_check.specs.Tables.{row_strike, half_strike, price_of, joined, row_with_price, half_with_price, IsEmptyTable, IsSameTable, ListsInTable, SetsPriceInTable};
+ghost use Rattle.std.specs.Prelude.{◌≡◌, ◌≤◌, length, None, Some, IfOk, OnOk, OnErr, option_map};
+ghost use Rattle.vx_feed.specs.Same.{is_same_side};
+ghost use Rattle.vx_check.specs.Rising.{Rises, IsPlaceOfKey, IsPlaceFrom, IsPlaceWithin, IsWith, item_at};
+ghost use Rattle.vx_check.specs.Tables.{row_strike, half_strike, joined, row_with_price, half_with_price, is_listed_in_table, AreRising, IsEmptyTable, IsSameTable, ListsInTable, SetsPriceInTable, SetsTradeInTable};
+ghost use Rattle.vx_check.specs.Trades.{is_listed_in};
+ghost use Rattle.vx_check.specs.Opening.{IsTermOfTable};
 
+use crate::opening::OpeningTerm;
+use crate::prices::NO_PRICE;
+use crate::trades;
+use crate::trades::FirstTrades;
 use std::alloc::Global;
 use vx_clock::Expiry;
 use vx_num::NoMemory;
 use vx_symbol::{Price, Side, StrikeRow};
 
-const NO_PRICE: Price = Price {
-    there: false,
-    live: false,
-    half: 0,
-};
-
-/// The series of one expiry. A strike stands in `rows` where both its series are listed, and in
-/// `halves` where one is.
+/// The series of one expiry. A strike stands in `rows` where both its series are listed, in `halves`
+/// where one is, and in `trades` where one traded before the opening.
 #[derive(Debug, Drop)]
 pub struct Table {
     pub expiry: Expiry,
     pub rate: Option<i32>,
     rows: Vec<StrikeRow>,
     halves: Vec<Half>,
+    trades: Vec<FirstTrades>,
 }
 
 /// A strike of which one side is listed.
@@ -44,6 +44,7 @@ impl Table {
             rate: None,
             rows: Vec::new(alloc),
             halves: Vec::new(alloc),
+            trades: Vec::new(alloc),
         }
     }
 
@@ -86,12 +87,62 @@ impl Table {
             Err(_) => set_half(&mut self.halves, side, strike, price),
         }
     }
+
+    /// Keeps the price of a trade, if it is the first of its series; a series that is not listed has
+    /// none. After a refusal nothing has changed.
+    pub fn trade(&mut self, side: Side, strike: u32, price: Price) -> Result<(), NoMemory>
+        ensures traded { OnOk result (SetsTradeInTable side strike price self.old self.new) }
+        ensures refused { OnErr result (IsSameTable self.old self.new) }
+    {
+        if self.is_listed(side, strike) {
+            trades::keep_first(&mut self.trades, side, strike, price)
+        } else {
+            Ok(())
+        }
+    }
+
+    fn is_listed(&self, side: Side, strike: u32) -> bool
+        ensures { AreRising self.now → result ≡ is_listed_in_table side strike self.now }
+    {
+        match place_of_row(self.rows.as_slice(), strike) {
+            Ok(_) => true,
+            Err(_) => is_listed_alone(self.halves.as_slice(), side, strike),
+        }
+    }
+
+    /// What the table shows at an opening that is taken now.
+    pub fn opening_term(&self, alloc: Global) -> Result<OpeningTerm, NoMemory>
+        ensures { IfOk result (IsTermOfTable self.now) }
+    {
+        OpeningTerm::of(
+            alloc,
+            self.rate,
+            self.trades.as_slice(),
+            self.rows.as_slice(),
+        )
+    }
+}
+
+/// Whether this side of a strike is listed, and the other is not.
+fn is_listed_alone(halves: &[Half], side: Side, strike: u32) -> bool
+    ensures { Rises half_strike halves.now → result ≡ is_listed_in side None (item_at half_strike strike halves.now) }
+{
+    match place_of_half(halves, strike) {
+        Ok(place) => is_of_side(halves[place], side),
+        Err(_) => false,
+    }
+}
+
+fn is_of_side(half: Half, side: Side) -> bool
+    ensures { result ≡ is_same_side half.side side }
+{
+    half.side == side
 }
 
 /// The place of a strike's row, or where it would stand.
 fn place_of_row(rows: &[StrikeRow], strike: u32) -> Result<usize, usize>
-    ensures within { MatchResult result (λ place. place < length rows.now) (λ place. place ≤ length rows.now) }
-    ensures place { Rises row_strike rows.now → MatchResult result (λ place. StandsAt row_strike strike place rows.now) (λ place. FitsAt row_strike strike place rows.now) }
+    ensures within { IsPlaceWithin rows.now result }
+    ensures place { IsPlaceOfKey row_strike strike rows.now result }
 {
     let place = first_row_from(rows, strike);
     if place < rows.len() && rows[place].strike == strike {
@@ -104,15 +155,15 @@ fn place_of_row(rows: &[StrikeRow], strike: u32) -> Result<usize, usize>
 /// The place of the first row at a strike or above it.
 fn first_row_from(rows: &[StrikeRow], strike: u32) -> usize
     ensures within { result ≤ length rows.now }
-    ensures first { Rises row_strike rows.now → IsPartitionPoint (λ row. nat_lt (row_strike row) strike ≡ true) (λ row. nat_lt (row_strike row) strike ≡ false) rows.now result }
+    ensures first { IsPlaceFrom row_strike strike rows.now result }
 {
     rows.partition_point(|row| row.strike < strike)
 }
 
 /// The place of a strike of which one side is listed, or where it would stand.
 fn place_of_half(halves: &[Half], strike: u32) -> Result<usize, usize>
-    ensures within { MatchResult result (λ place. place < length halves.now) (λ place. place ≤ length halves.now) }
-    ensures place { Rises half_strike halves.now → MatchResult result (λ place. StandsAt half_strike strike place halves.now) (λ place. FitsAt half_strike strike place halves.now) }
+    ensures within { IsPlaceWithin halves.now result }
+    ensures place { IsPlaceOfKey half_strike strike halves.now result }
 {
     let place = first_half_from(halves, strike);
     if place < halves.len() && halves[place].strike == strike {
@@ -125,7 +176,7 @@ fn place_of_half(halves: &[Half], strike: u32) -> Result<usize, usize>
 /// The place of the first half at a strike or above it.
 fn first_half_from(halves: &[Half], strike: u32) -> usize
     ensures within { result ≤ length halves.now }
-    ensures first { Rises half_strike halves.now → IsPartitionPoint (λ half. nat_lt (half_strike half) strike ≡ true) (λ half. nat_lt (half_strike half) strike ≡ false) halves.now result }
+    ensures first { IsPlaceFrom half_strike strike halves.now result }
 {
     halves.partition_point(|half| half.strike < strike)
 }
@@ -175,7 +226,7 @@ fn row_with_price(row: StrikeRow, side: Side, price: Price) -> StrikeRow
 fn half_with_price(half: Half, side: Side, price: Price) -> Half
     ensures { result ≡ half_with_price side price half }
 {
-    if half.side == side {
+    if is_of_side(half, side) {
         Half { price, ..half }
     } else {
         half
@@ -187,19 +238,5 @@ fn set_half(halves: &mut Vec<Half>, side: Side, strike: u32, price: Price)
 {
     if let Ok(place) = place_of_half(halves.as_slice(), strike) {
         halves[place] = half_with_price(halves[place], side, price);
-    }
-}
-
-/// The price that a quote shows: there where it stands, live where its bid is at least a cent.
-pub fn quoted(bid: u32, ask: u32) -> Price
-    ensures { IsPrice bid → IsPrice ask → result ≡ price_of bid ask }
-{
-    if ask < 1 || bid > ask {
-        return NO_PRICE;
-    }
-    Price {
-        there: true,
-        live: bid >= 1,
-        half: bid.saturating_add(ask),
     }
 }

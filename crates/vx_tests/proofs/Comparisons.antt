@@ -1,5 +1,5 @@
 -- A comparison that is the last of a chain says whether the whole holds, where those before it do.
-use Rattle.std.proofs.Common.{◌≡◌, ◌↔◌, ℕ, ◌+◌, ◌*◌, ◌^◌, ◌≤◌, Bool, true, false, ℤ, pos, int_le, ◌*ℤ◌, ◌≤ℤ◌, ◌<ℤ◌, List, IsTrue, sym, ◌∙◌, ap, subst, arith}
+use Rattle.std.proofs.Common.{◌≡◌, ◌↔◌, ℕ, ◌+◌, ◌*◌, ◌^◌, ◌≤◌, Bool, true, false, ℤ, pos, int_le, ◌≤ℤ◌, ◌<ℤ◌, List, IsTrue, sym, ◌∙◌, ap, subst, arith}
 use Rattle.std.proofs.lemmas.Nat.{pow-add}
 use Rattle.vx_cert.specs.declared.certificate.Ends.{Ends}
 use Rattle.vx_claims.specs.Exponential.{low_sum, high_sum, EncloseExponential}

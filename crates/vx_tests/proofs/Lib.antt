@@ -3,3 +3,4 @@ pub mod StripLemmas
 pub mod Products
 pub mod Comparisons
 pub mod TermRanges
+pub mod Numbered

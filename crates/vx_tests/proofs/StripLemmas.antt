@@ -1,6 +1,6 @@
 -- The stated rows are the strip where their strikes and prices are those of the selected rows and their widths are those between
 -- their own neighbours.
-use Rattle.std.proofs.Common.{◌≡◌, ◌≢◌, ◌↔◌, ◌&&◌, ℕ, suc, ◌+◌, ◌<◌, ◌≤◌, Bool, true, false, cond, List, [], ◌∷◌, map, drop, length, get_or, slice_get, slice_index_or, Option, Some, None, refl, sym, ◌∙◌, ap, subst, inl, inr, length-drop, arith}
+use Rattle.std.proofs.Common.{◌≡◌, ◌≢◌, ◌↔◌, ◌&&◌, ℕ, ◌+◌, ◌<◌, ◌≤◌, Bool, true, false, List, [], ◌∷◌, map, drop, length, get_or, slice_get, slice_index_or, Option, Some, refl, sym, ◌∙◌, ap, subst, inl, inr, length-drop, arith}
 use Rattle.std.proofs.lemmas.List.{drop_more, drop_all, get_or_default}
 use Rattle.std.proofs.lemmas.Option.{slice_get-get_or, same_Some}
 use Rattle.std.specs.List.{filter}

@@ -4,3 +4,5 @@ pub mod Ranges
 pub mod Rows
 pub mod Stated
 pub mod Terms
+-- the parts of a figure's tests
+pub mod Figures

@@ -1,9 +1,9 @@
--- The ranges that the tests of a term state, each by itself: a later test's products stay within 128 bits by them.
+-- The ranges that the tests of a term and of a figure state, each by itself: a later test's products stay within 128 bits by them.
 -- This project's own. Numbers count 2^-P.
 use Rattle.std.specs.Prelude.{ℕ, ◌*◌, ◌^◌, ℤ, pos, ◌*ℤ◌, ◌≤ℤ◌}
 use Rattle.vx_cert.specs.declared.certificate.Ends.{Ends}
 use Rattle.vx_formula.specs.declared.limits.TheConstants.{STRIP_TOTAL_MAX}
-use Rattle.vx_claims.specs.declared.limits.TheConstants.{EXCESS_MAX, VARIANCE_MAX}
+use Rattle.vx_claims.specs.declared.limits.TheConstants.{EXCESS_MAX, VARIANCE_MAX, SQUARE_MAX}
 use Rattle.vx_claims.specs.TermTests.{IsWithin}
 
 -- not negative, in order, and at most 5/4
@@ -32,3 +32,7 @@ pub record IsTotalInRange (P : ℕ) (s : Ends) : Type 0 where
 pub record IsVarianceInRange (P : ℕ) (w : Ends) : Type 0 where
   pub low : IsWithin (VARIANCE_MAX * 2 ^ P) w.lo
   pub high : IsWithin (VARIANCE_MAX * 2 ^ P) w.hi
+
+pub record IsSquareInRange (P : ℕ) (x : Ends) : Type 0 where
+  pub low : IsWithin (SQUARE_MAX * 2 ^ P) x.lo
+  pub high : IsWithin (SQUARE_MAX * 2 ^ P) x.hi

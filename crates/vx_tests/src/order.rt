@@ -33,3 +33,27 @@ pub fn numbered(number: u32) -> Test
         _ => Test::IndexEnds,
     }
 }
+
+/// The number of a test.
+pub fn number_of(test: Test) -> u32
+    ensures { result ≡ test_number test }
+{
+    match test {
+        Test::Place => 1,
+        Test::Terms => 2,
+        Test::Minutes => 3,
+        Test::Rate => 4,
+        Test::TaylorTerms => 5,
+        Test::Exponential => 6,
+        Test::ClosestPair => 7,
+        Test::Forward => 8,
+        Test::Level => 9,
+        Test::Excess => 10,
+        Test::Strip => 11,
+        Test::Contributions => 12,
+        Test::Total => 13,
+        Test::Variance => 14,
+        Test::Square => 15,
+        Test::IndexEnds => 16,
+    }
+}

@@ -10,6 +10,7 @@ use vx_formula::limits::VARIANCE_MAX;
 /// The scale of a certificate's numbers, by its version.
 pub fn scale_of(version: u32) -> u32
     ensures value { result ≡ scale_of version }
+    ensures least { FIRST_SCALE ≤ result }
     ensures most { result ≤ SCALE }
 {
     if version == 1 { FIRST_SCALE } else { SCALE }

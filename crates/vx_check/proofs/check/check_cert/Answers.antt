@@ -1,34 +1,58 @@
-use Rattle.std.proofs.Common.{sym, subst}
-use Rattle.vx_cert.specs.declared.certificate.CertBody.{CertBody}
-use Rattle.vx_check.specs.Answers.{LevelMeets, IsVerdict, IsBodyVerdict, IsBodyAnswer}
-use Rattle.vx_check.proofs.Verdicts.{first_failing_is_verdict}
-use Rattle.vx_check.proofs.OverEvents.{answer_over}
+use Rattle.std.proofs.Common.{◌≡◌, ℕ, ◌<◌, List, length, IsTrue, false, true, refl, sym, ◌∙◌, arith}
+use Rattle.vx_feed.specs.declared.events.Event.{Event}
+use Rattle.vx_claims.specs.declared.acceptance.Test.{Test}
+use Rattle.vx_claims.specs.Test.{test_number}
+use Rattle.vx_claims.specs.Accepts.{scale_of, Meets}
+use Rattle.vx_check.specs.declared.verdict.Verdict.TheVariants.{Yes, No}
+use Rattle.vx_check.specs.Numbers.{BodyNumbersMeet}
+use Rattle.vx_check.specs.Reached.{IsReached}
+use Rattle.vx_check.proofs.Verdicts.{first_number, one_more, fails_at, all_met}
 use Rattle.vx_check.proofs.Sound.{yes_means}
 use Rattle.vx_check.proofs.check.check_cert.Goals as goal
 
-pub returns-in-K0-clause-kept : goal.returns-in-K0-clause-kept
-returns-in-K0-clause-kept c =
-    let book = c.args.events.now in
-    let cert = c.args.c.now in
-    let stated = c.in-K0 in
-    let verdict = c.first_failing.result in
-    let P : CertBody → Type 0 = λ body. IsBodyVerdict book cert.v cert.line cert.time body verdict in
-    subst P (sym stated.is)
-    (subst (IsVerdict (LevelMeets book cert.v cert.line cert.time stated.expiry stated.pair stated.k0)) (sym c.first_failing.ensures)
-    (first_failing_is_verdict book cert.v cert.line cert.time stated.expiry stated.pair stated.k0))
+pub loop-number-init : goal.loop-number-init
+loop-number-init c = record {
+  numbers = λ other low. let high = first_number other in absurd (omega arith);
+  tests = λ events reached lawful other low. let high = first_number other in absurd (omega arith);
+}
 
-pub returns-in-K0-clause-answer : goal.returns-in-K0-clause-answer
-returns-in-K0-clause-answer c = λ pushed stands lawful short.
-    let book = c.args.events.now in
-    let cert = c.args.c.now in
-    let stated = c.in-K0 in
-    let verdict = c.first_failing.result in
-    let P : CertBody → Type 0 = λ body. IsBodyAnswer pushed cert.v cert.line cert.time body verdict in
-    subst P (sym stated.is)
-    (answer_over book pushed stands cert.v cert.line cert.time short stated.expiry stated.pair stated.k0 verdict
-    (subst (IsVerdict (LevelMeets book cert.v cert.line cert.time stated.expiry stated.pair stated.k0)) (sym c.first_failing.ensures)
-    (first_failing_is_verdict book cert.v cert.line cert.time stated.expiry stated.pair stated.k0)))
+pub cert_meets-requires : goal.cert_meets-requires
+cert_meets-requires c = λ other low. let at = c.numbered.ensures in c.loop-number.invariant.numbers other (omega arith)
 
-pub returns-in-K0-clause-sound : goal.returns-in-K0-clause-sound
-returns-in-K0-clause-sound c = λ pushed stands lawful short version e.
-    yes_means pushed c.args.c.now c.first_failing.result (returns-in-K0-clause-answer c pushed stands lawful short) lawful version e
+pub loop-number-preserved : goal.loop-number-preserved
+loop-number-preserved c =
+    let cert = c.args.c.now in
+    let number = c.loop-number.number in
+    let test = c.numbered.result in
+    let at : test_number test ≡ number = c.numbered.ensures in
+    let met = c.if-not-cert_meets.false in
+    record {
+      numbers = one_more (BodyNumbersMeet (scale_of cert.v) cert.body) number test at c.loop-number.invariant.numbers (c.cert_meets.ensures.numbers met);
+      tests = λ events reached lawful.
+          one_more (Meets events cert) number test at (c.loop-number.invariant.tests events reached lawful)
+          ((c.cert_meets.ensures.exact events reached lawful (λ other low. c.loop-number.invariant.tests events reached lawful other (omega arith))).0 met);
+    }
+
+pub returns-then-not-cert_meets-clause-answer : goal.returns-then-not-cert_meets-clause-answer
+returns-then-not-cert_meets-clause-answer c = λ events stands lawful short.
+    let cert = c.args.c.now in
+    let number = c.loop-number.number in
+    let test = c.numbered.result in
+    let at : test_number test ≡ number = c.numbered.ensures in
+    let reached : IsReached c.args.book.now events cert.line = record { stands = stands; within = short } in
+    let before = c.loop-number.invariant.tests events reached lawful in
+    let never : IsTrue c.cert_meets.result → ⊥ = λ t. let q : true ≡ false = sym t ∙ c.if-not-cert_meets.true in cc q in
+    fails_at (Meets events cert) number test at before (λ met. never ((c.cert_meets.ensures.exact events reached lawful (λ other low. before other (omega arith))).1 met))
+
+pub returns-then-not-cert_meets-clause-sound : goal.returns-then-not-cert_meets-clause-sound
+returns-then-not-cert_meets-clause-sound c = λ events stands lawful short version e. absurd (cc e)
+
+pub returns-clause-answer : goal.returns-clause-answer
+returns-clause-answer c = λ events stands lawful short.
+    let cert = c.args.c.now in
+    let reached : IsReached c.args.book.now events cert.line = record { stands = stands; within = short } in
+    all_met (Meets events cert) c.loop-number.number (omega arith) (c.loop-number.invariant.tests events reached lawful)
+
+pub returns-clause-sound : goal.returns-clause-sound
+returns-clause-sound c = λ events stands lawful short version e.
+    yes_means events c.args.c.now Yes (returns-clause-answer c events stands lawful short) lawful version refl

@@ -1,4 +1,4 @@
-use Rattle.std.proofs.Common.{◌≡◌, pos, ◌<ℤ◌, to_z, ◌∙◌, ap, arith}
+use Rattle.std.proofs.Common.{◌≡◌, pos, ◌<ℤ◌, to_z, arith}
 use Rattle.std.specs.Int.{w128}
 use Rattle.std.proofs.lemmas.Int.{ints}
 use Rattle.vx_claims.specs.Exponential.{low_sum, high_sum}

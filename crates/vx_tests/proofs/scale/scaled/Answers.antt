@@ -1,4 +1,4 @@
-use Rattle.std.proofs.Common.{◌≡◌, ◌^◌, pos, to_z, of_z, to_z-of_z, ◌∙◌, arith}
+use Rattle.std.proofs.Common.{◌≡◌, ◌^◌, pos, to_z, of_z, to_z-of_z, arith}
 use Rattle.std.specs.Int.{w128}
 use Rattle.std.proofs.lemmas.Int.{ints}
 use Rattle.vx_tests.proofs.Products.{scaled_fits}

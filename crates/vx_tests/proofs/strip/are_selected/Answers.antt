@@ -1,10 +1,8 @@
-use Rattle.std.proofs.Common.{◌≡◌, ◌↔◌, length, arith}
-use Rattle.std.specs.List.{filter}
-use Rattle.std.proofs.lemmas.List.{drop_all}
+use Rattle.std.proofs.Common.{length, arith}
 use Rattle.std.proofs.lemmas.Bool.Decides.{Decides-like, Decides-eqb}
 use Rattle.vx_formula.specs.Level.{strike_at}
 use Rattle.vx_formula.specs.Selection.{is_selected}
-use Rattle.vx_tests.proofs.StripLemmas.{none_left, at_the_end}
+use Rattle.vx_tests.proofs.StripLemmas.{at_the_end}
 use Rattle.vx_tests.proofs.strip.are_selected.Goals as goal
 
 pub returns : goal.returns

@@ -1,4 +1,4 @@
-use Rattle.std.proofs.Common.{◌≡◌, ℕ, map, None, IsTrue, true, false, sym, ◌∙◌, subst}
+use Rattle.std.proofs.Common.{◌≡◌, ℕ, None, IsTrue, true, false, sym, ◌∙◌, subst}
 use Rattle.vx_formula.specs.Level.{strike_at}
 use Rattle.vx_formula.specs.Selection.{selected_rows}
 use Rattle.vx_tests.specs.Stated.{AreSameFrom}

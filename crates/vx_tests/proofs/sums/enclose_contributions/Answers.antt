@@ -1,4 +1,4 @@
-use Rattle.std.proofs.Common.{ℕ, get_or, true, refl, subst, below_more, arith}
+use Rattle.std.proofs.Common.{get_or, refl, subst, below_more, arith}
 use Rattle.std.proofs.lemmas.List.{get_or_default}
 use Rattle.vx_cert.specs.declared.rows.CertRow.{CertRow}
 use Rattle.vx_claims.specs.TermTests.{EnclosesContribution}

@@ -1,4 +1,4 @@
-use Rattle.std.proofs.Common.{ℕ, ◌*◌, ◌-◌, ◌^◌, ◌≤◌, nat_le, Decides, sym, subst}
+use Rattle.std.proofs.Common.{ℕ, ◌*◌, ◌-◌, ◌^◌, ◌≤◌, nat_le, sym, subst}
 use Rattle.std.proofs.lemmas.Bool.Decides.{Decides-like}
 use Rattle.vx_tests.proofs.Decisions.{decides_le}
 use Rattle.vx_tests.proofs.Products.{quarters_over}

@@ -1,4 +1,4 @@
-use Rattle.std.proofs.Common.{◌≡◌, ℕ, ◌<◌, ◌≤◌, ap, arith}
+use Rattle.std.proofs.Common.{◌≡◌, ap, arith}
 use Rattle.vx_claims.specs.declared.acceptance.Test.TheVariants.{Exponential, Excess, Contributions, Total}
 use Rattle.vx_claims.specs.Test.{test_number}
 use Rattle.vx_tests.proofs.TermRanges.{exponential_range, excess_range, total_range}

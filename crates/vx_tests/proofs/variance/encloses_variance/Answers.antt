@@ -1,4 +1,4 @@
-use Rattle.std.proofs.Common.{◌≡◌, pos, ◌-ℤ◌, ◌*ℤ◌, ◌≤ℤ◌, FitsSigned, IsTrue, false, true, to_z, of_z, to_z-of_z, sym, ◌∙◌, rules, arith}
+use Rattle.std.proofs.Common.{◌≡◌, pos, ◌-ℤ◌, ◌*ℤ◌, FitsSigned, IsTrue, false, true, to_z, of_z, to_z-of_z, sym, ◌∙◌, rules, arith}
 use Rattle.std.specs.Int.{w128}
 use Rattle.std.proofs.lemmas.Int.{ints}
 use Rattle.vx_tests.proofs.variance.encloses_variance.Goals as goal

@@ -11,4 +11,5 @@ returns-clause-taken c =
       day = refl;
       expiries = search rules;
       tables = record { table = c.new.result; is_empty = c.new.ensures; added = items };
+      opening = refl;
     }

@@ -15,6 +15,7 @@ returns-in_ok-insert_row-in-Ok-clause-listed c =
     record {
       expiry = refl;
       rate = refl;
+      trades = refl;
       series = λ rising.
           lists_second c.args.side c.args.strike c.in-Ok.place c.args.self.now.rows.items c.insert_row.new.rows.items c.args.self.now.halves.items c.remove.new.self.items
           c.index.result.now c.joined-row.result (subst Places c.as_slice.ensures.value c.in-Ok.ensures.place rising.halves) rising.halves c.index.ensures c.joined-row.ensures
@@ -32,6 +33,7 @@ returns-in-Err-clause-listed c =
     record {
       expiry = refl;
       rate = refl;
+      trades = refl;
       series = λ rising.
           lists_first c.args.side c.args.strike c.in-Err.place c.args.self.now.rows.items c.args.self.now.halves.items c.insert.new.self.items
           (subst Places c.as_slice.ensures.value c.in-Err.ensures.place rising.halves) rising.rows rising.halves items;

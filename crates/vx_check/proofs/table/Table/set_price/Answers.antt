@@ -13,6 +13,7 @@ returns-in-Ok c =
     record {
       expiry = refl;
       rate = refl;
+      trades = refl;
       series = λ rising.
           let stands = subst Places c.as_slice.ensures.value c.in-Ok.ensures.place rising.rows in
           record {
@@ -28,6 +29,7 @@ returns-in-Err c =
     record {
       expiry = refl;
       rate = refl;
+      trades = refl;
       series = λ rising.
           let fits = subst Places c.as_slice.ensures.value c.in-Err.ensures.place rising.rows in
           record {
