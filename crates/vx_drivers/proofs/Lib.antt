@@ -1,6 +1,10 @@
 mod AlongLemmas
 mod CertificateLemmas
-mod ExitLemmas
+pub mod ExitLemmas
 mod FailureLemmas
-mod RunLemmas
-mod SendingLemmas
+pub mod OneRun
+pub mod RunLemmas
+pub mod SendingLemmas
+pub mod TickLawLemmas
+pub mod TickLemmas
+pub mod TickRunLemmas

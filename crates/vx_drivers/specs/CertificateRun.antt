@@ -1,6 +1,6 @@
 -- A run that answers the lines of a file of certificates over a feed: one step a line, in their order.
 use Rattle.std.specs.Prelude.{◌≡◌, ◌⊎◌, ℕ, ◌+◌, ◌≤◌, Bool, true, false, nat_lt, List, [], ◌∷◌, ◌++◌, length, take, codes, Option, Some, None, Result, Ok, Err}
-use Rattle.vx_lines.specs.TextLines.{Ending, TextLines, at_end, too_long, no_eol, too_many, ended, lines_then}
+use Rattle.vx_lines.specs.TextLines.{Ending, TextLines, at_end, too_long, no_eol, too_many, ended, at_most, lines_of, lines_then}
 use Rattle.vx_feed.specs.declared.events.Event.{Event}
 use Rattle.vx_feed.specs.Feed.{Reading}
 use Rattle.vx_reading.specs.FeedReading.{is_met}
@@ -9,6 +9,7 @@ use Rattle.vx_drivers.specs.declared.exit.Exit.{Exit}
 use Rattle.vx_drivers.specs.declared.exit.Exit.TheVariants.{Done, SaidNo, BadFeed, BadCerts}
 use Rattle.vx_drivers.specs.declared.exit.LineCause.{LineCause}
 use Rattle.vx_drivers.specs.declared.exit.LineCause.TheVariants as line
+use Rattle.vx_drivers.specs.declared.limits.TheConstants.{CERT_LINES_MAX, CERT_LINE_LEN_MAX}
 use Rattle.vx_drivers.specs.Along.{Along}
 use Rattle.vx_drivers.specs.Answers.{Answer, said_no, count_no, answers_text, end_text}
 use Rattle.vx_drivers.specs.Exits.{is_cut}
@@ -20,6 +21,10 @@ pub record Rules (C : Type 0) : Type 1 where
   pub ReadsAs : List ℕ → Result C Text → Type 0
   pub named : C → ℕ
   pub Judges : List Event → C → Answer → Type 0
+
+-- the lines of a file of certificates
+abbrev pub certificates_of : List ℕ → TextLines
+certificates_of text = at_most CERT_LINES_MAX (lines_of CERT_LINE_LEN_MAX text)
 
 -- where a run stands: the answers so far, and the last feed line that a readable certificate named
 pub record Stand : Type 0 where
@@ -104,6 +109,11 @@ pub record Runs {C : Type 0} (rules : Rules C) (feed : Reading) (certs : TextLin
   pub before : StandsBefore rules feed certs stand rest
   pub ends : Ends rules feed stand rest exit
   pub text_is : text ≡ answers_text stand.answers ++ last_line stand exit
+
+-- over the same feed and certificates there is one exit at most, and one text
+abbrev pub RunIsOne : {C : Type 0} → Rules C → Type 0
+RunIsOne rules = (feed : Reading) (certs : TextLines) (a b : Exit) (x y : Text) →
+    Runs rules feed certs a x → Runs rules feed certs b y → (a ≡ b) × (x ≡ y)
 
 -- what first lines of the certificates give: their answers, and the last line only where all are answered
 pub record Gives {C : Type 0} (rules : Rules C) (feed : Reading) (certs : TextLines) (text : Text) : Type 0 where

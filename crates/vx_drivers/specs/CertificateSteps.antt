@@ -1,7 +1,7 @@
 -- The steps of a run that answers certificates.
 use Rattle.std.specs.Prelude.{◌≡◌, ◌⊎◌, ℕ, ◌+◌, ◌-◌, ◌==◌, ◌≤◌, Bool, true, false, List, [], ◌∷◌, ◌++◌, length, Option, Some, None, IfSome, Result, Ok, Err, if◌then◌else◌}
 use Rattle.std.specs.Option.{option_map}
-use Rattle.vx_lines.specs.TextLines.{TextLines, at_end, at_most, ended, lines_of, lines_then}
+use Rattle.vx_lines.specs.TextLines.{TextLines, at_end, at_most, ended, lines_then}
 use Rattle.vx_desk.specs.declared.device.Slot.{Slot}
 use Rattle.vx_desk.specs.declared.device.Slot.TheVariants.{Side, Out}
 use Rattle.vx_desk.specs.Told.{Told}
@@ -15,16 +15,16 @@ use Rattle.vx_reading.specs.Stops.{bad_cause}
 use Rattle.vx_drivers.specs.declared.check_run.CheckRun.{CheckRun}
 use Rattle.vx_drivers.specs.declared.exit.Exit.{Exit}
 use Rattle.vx_drivers.specs.declared.exit.Exit.TheVariants.{Done, SaidNo, BadFeed}
-use Rattle.vx_drivers.specs.declared.limits.TheConstants.{CERT_LINES_MAX, CERT_LINE_LEN_MAX}
+use Rattle.vx_drivers.specs.declared.limits.TheConstants.{CERT_LINES_MAX}
 use Rattle.vx_drivers.specs.Along.{Along}
 use Rattle.vx_drivers.specs.Answers.{Answer, answer_of, answer_text, answers_text, count_no, count_yes}
-use Rattle.vx_drivers.specs.CertificateRun.{Rules, Stand, Answers, RunsBy, Stops, answered, start}
+use Rattle.vx_drivers.specs.CertificateRun.{Rules, Stand, Answers, RunsBy, Stops, answered, certificates_of, start}
 use Rattle.vx_drivers.specs.Exits.{is_cut}
 use Rattle.vx_drivers.specs.Sending.{CutsOff, Sent, Text}
 
 -- what the certificates are, where their desk tells them
 abbrev pub certs_told : (Slot → Told) → Option TextLines
-certs_told told = option_map (λ text. at_most CERT_LINES_MAX (lines_of CERT_LINE_LEN_MAX text)) (told Side).left
+certs_told told = option_map certificates_of (told Side).left
 
 -- what a line is read as: a certificate, or the word for why it is none
 abbrev pub read_as : {C : Type 0} → Option C → Text → Result C Text

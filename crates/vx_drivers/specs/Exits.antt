@@ -1,14 +1,13 @@
 -- What a run ends in.
 use Rattle.std.specs.Prelude.{ℕ, ◌≤◌, Bool, true, false, Option, Some, None, Result, Ok, Err}
 use Rattle.vx_desk.specs.declared.device.Slot.TheVariants as slot
-use Rattle.vx_feed.specs.declared.faults.FeedFault.TheVariants as feed
 use Rattle.vx_settle.specs.declared.fault.PositionFault.TheVariants as position
 use Rattle.vx_reading.specs.declared.stop.FeedStop.{FeedStop}
 use Rattle.vx_reading.specs.declared.stop.FeedStop.TheVariants as stop
 use Rattle.vx_reading.specs.Failures.{Calls, open_call, read_call, write_call}
+use Rattle.vx_reading.specs.Stops.{IsCause}
 use Rattle.vx_drivers.specs.declared.exit.Exit.{Exit}
 use Rattle.vx_drivers.specs.declared.exit.Exit.TheVariants.{Done, SaidNo, Usage, BadFeed, OpenFault, ReadFault, WriteFault, NoMemory, BadPositions, BadCerts}
-use Rattle.vx_reading.specs.declared.stop.FeedCause.TheVariants.{Event}
 use Rattle.vx_drivers.specs.declared.exit.PositionCause.TheVariants.{Fault}
 
 -- the status of each exit, in their order
@@ -26,7 +25,7 @@ status_of (BadCerts line cause) = 9
 
 -- want of memory is an exit of its own and stands inside no cause
 abbrev pub IsWithoutNoMemory : Exit → Type 0
-IsWithoutNoMemory (BadFeed line (Event feed.NoMemory)) = ⊥
+IsWithoutNoMemory (BadFeed line cause) = IsCause cause
 IsWithoutNoMemory (BadPositions line (Fault position.NoMemory)) = ⊥
 IsWithoutNoMemory _ = Unit {0}
 

@@ -5,3 +5,7 @@ pub mod CertificateRun
 pub mod CertificateSteps
 pub mod Exits
 pub mod Sending
+pub mod TickExits
+pub mod TickLaws
+pub mod TickRun
+pub mod TickSteps

@@ -1,6 +1,6 @@
 //! What answers the lines of a file of certificates.
 
-ghost use Rattle.std.specs.Prelude.{◌≡◌, ◌≤◌, ℕ, List, [], length, IfOk, Result};
+ghost use Rattle.std.specs.Prelude.{◌≡◌, ◌≤◌, ℕ, List, [], length, IfOk, Ok, Result};
 ghost use Rattle.vx_feed.specs.declared.events.Event.{Event};
 ghost use Rattle.vx_feed.specs.Order.{AreLawful};
 ghost use Rattle.vx_drivers.specs.Answers.{Answer, answer_of};
@@ -31,16 +31,17 @@ pub trait AnswersCertificates: Drop {
     fn line_named(&self, certificate: &Self::Certificate) -> u64
         ensures { result ≡ rules.named certificate.now };
 
-    /// Whether the answer to a certificate is yes. The events up to the line that it names were taken
-    /// up, and `words` is then what the answer's line says: of a yes what follows the line's number, of
-    /// a no the word for why.
+    /// Whether the answer to a certificate that was read is yes. The events up to the line that it names
+    /// were taken up, and `words` is then what the answer's line says: of a yes what follows the line's
+    /// number, of a no the word for why.
     fn judge(
         &self,
         book: &Self::Book,
         certificate: &Self::Certificate,
         words: &mut Vec<u8>,
     ) -> Result<bool, NoMemory>
-        requires { words.old.items ≡ [] }
+        requires empty { words.old.items ≡ [] }
+        requires read { (line : List ℕ) × rules.ReadsAs line (Ok certificate.now) }
         ensures { (events : List Event) → Self.Book.StandsFor book.now events → AreLawful events → length events ≤ rules.named certificate.now → IfOk result (λ holds. rules.Judges events certificate.now (answer_of holds words.new.items)) };
 
     /// A line is read as one thing at most.

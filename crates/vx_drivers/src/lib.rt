@@ -6,12 +6,23 @@ mod certificates;
 mod check_run;
 mod devices;
 mod exit;
+mod laws;
 pub mod limits;
 mod output;
 pub mod text;
+mod tick_laws;
+mod tick_output;
+mod tick_run;
+#[cfg(test)]
+mod tick_tests;
+mod ticks;
 
 pub use certificates::AnswersCertificates;
 pub use check_run::answer_certificates;
 pub use devices::{open_slot, send_line};
 pub use exit::{Exit, LineCause, PositionCause};
+pub use laws::certificate_run_is_one;
+pub use tick_laws::tick_run_is_one;
+pub use tick_run::answer_ticks;
+pub use ticks::{AnswersTicks, Tally};
 pub use vx_reading::{FeedCause, TakesEvents};

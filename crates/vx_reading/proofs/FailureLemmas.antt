@@ -12,7 +12,7 @@ pub step_same : {D : Type 0} (told : D → Slot → Told) (before after : D) →
 step_same {D} told before after same = subst (λ (d : D). IsStep None (told before) (told d)) (sym same) (step_none (told before))
 
 -- the call that fails after steps in which none did is the one that failed in all of them
-failures_after : (before between after : Slot → Told) (named : Option Calls) → NoFailure before between → Failures named between after → Failures named before after
+pub failures_after : (before between after : Slot → Told) (named : Option Calls) → NoFailure before between → Failures named between after → Failures named before after
 failures_after before between after None first last = λ calls. last calls ∙ first calls
 failures_after before between after (Some failed) first last = record {
   rose = subst (λ n. Rose n (failures failed after)) (first failed) last.rose;

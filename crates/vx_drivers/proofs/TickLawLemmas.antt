@@ -1,0 +1,93 @@
+-- The laws of the run that answers ticks.
+use Rattle.std.proofs.Common.{◌≡◌, ◌∙◌, sym, ap, subst, refl, List, [], ◌∷◌, ◌++◌, Option, Some, None}
+use Rattle.std.proofs.lemmas.List.{append-nil, append_assoc}
+use Rattle.vx_feed.specs.declared.events.Event.{Event}
+use Rattle.vx_feed.specs.Feed.{BadCause, BadLine, Reading, missing_end, no_eol, of_fault, too_long}
+use Rattle.vx_reading.specs.declared.stop.FeedCause.{FeedCause}
+use Rattle.vx_reading.specs.declared.stop.FeedCause.TheVariants as cause
+use Rattle.vx_reading.specs.Stops.{bad_cause}
+use Rattle.vx_drivers.specs.declared.exit.Exit.{Exit}
+use Rattle.vx_drivers.specs.declared.exit.Exit.TheVariants.{Done, BadFeed}
+use Rattle.vx_drivers.specs.Along.{Along}
+use Rattle.vx_drivers.specs.TickLaws.{GivesEach, TickRunIsOne, TickRunIsThere}
+use Rattle.vx_drivers.specs.TickRun.{EndsTicks, TickRules, TickStand, TakesEvent}
+use Rattle.vx_drivers.specs.TickRun.{certificates_text, counts_text, lines_text, no_events, one_more, unless_bad}
+use Rattle.vx_drivers.proofs.AlongLemmas.{along_one}
+
+-- ---- the exit
+
+-- a cause of a bad line is that of one fault of a feed line
+cause_one : (a b : FeedCause) → bad_cause a ≡ bad_cause b → a ≡ b
+cause_one (cause.Event f) (cause.Event g) h = let same : f ≡ g = cc in ap (λ x. cause.Event x) same
+cause_one (cause.Event f) cause.TooLong h = absurd (let no : ⊥ = cc in no)
+cause_one (cause.Event f) cause.NoEol h = absurd (let no : ⊥ = cc in no)
+cause_one (cause.Event f) cause.MissingEnd h = absurd (let no : ⊥ = cc in no)
+cause_one cause.TooLong (cause.Event g) h = absurd (let no : ⊥ = cc in no)
+cause_one cause.TooLong cause.TooLong h = refl
+cause_one cause.TooLong cause.NoEol h = absurd (let no : ⊥ = cc in no)
+cause_one cause.TooLong cause.MissingEnd h = absurd (let no : ⊥ = cc in no)
+cause_one cause.NoEol (cause.Event g) h = absurd (let no : ⊥ = cc in no)
+cause_one cause.NoEol cause.TooLong h = absurd (let no : ⊥ = cc in no)
+cause_one cause.NoEol cause.NoEol h = refl
+cause_one cause.NoEol cause.MissingEnd h = absurd (let no : ⊥ = cc in no)
+cause_one cause.MissingEnd (cause.Event g) h = absurd (let no : ⊥ = cc in no)
+cause_one cause.MissingEnd cause.TooLong h = absurd (let no : ⊥ = cc in no)
+cause_one cause.MissingEnd cause.NoEol h = absurd (let no : ⊥ = cc in no)
+cause_one cause.MissingEnd cause.MissingEnd h = refl
+
+-- and there is such a fault
+cause_of : (cause : BadCause) → (why : FeedCause) × (cause ≡ bad_cause why)
+cause_of (of_fault f) = (cause.Event f, refl)
+cause_of too_long = (cause.TooLong, refl)
+cause_of no_eol = (cause.NoEol, refl)
+cause_of missing_end = (cause.MissingEnd, refl)
+
+exit_one : (bad : Option BadLine) (exit other : Exit) → EndsTicks bad exit → EndsTicks bad other → exit ≡ other
+exit_one None exit other h k = h ∙ sym k
+exit_one (Some bad) exit other (why, is, has) (why_other, is_other, has_other) =
+    is ∙ ap (λ w. BadFeed bad.line w) (cause_one why why_other (sym has ∙ has_other)) ∙ sym is_other
+
+exit_of : (bad : Option BadLine) → (exit : Exit) × EndsTicks bad exit
+exit_of None = (Done, refl)
+exit_of (Some bad) = let why = cause_of bad.cause in (BadFeed bad.line why.0, (why.0, refl, why.1))
+
+-- ---- the steps
+
+module _ {A : Type 0} (rules : TickRules A) where
+  step_one : ((events : List Event) (a b : Option A) → rules.IsGiven events a → rules.IsGiven events b → a ≡ b)
+      → (stand : TickStand A) (event : Event) (a b : TickStand A) → TakesEvent rules stand event a
+      → TakesEvent rules stand event b → a ≡ b
+  step_one one stand event a b (said, gives, is) (other, gives_other, is_other) =
+      is ∙ ap (one_more stand event) (one (stand.events ++ event ∷ []) said other gives gives_other) ∙ sym is_other
+
+  pub run_is_one : ((events : List Event) (a b : Option A) → rules.IsGiven events a → rules.IsGiven events b → a ≡ b)
+      → TickRunIsOne rules
+  run_is_one one feed exit other out certs out_other certs_other run run_other =
+      let same : run.stand ≡ run_other.stand = along_one (TakesEvent rules) (step_one one)
+      feed.events no_events run.stand run_other.stand run.steps run_other.steps in (
+        exit_one feed.bad exit other run.ends run_other.ends,
+        run.out_is ∙ ap (λ (s : TickStand A). lines_text rules s.answers ++ unless_bad feed.bad
+            (counts_text rules s.answers)) same ∙ sym run_other.out_is,
+        run.certs_are ∙ ap (λ (s : TickStand A). certificates_text rules s.answers) same ∙ sym run_other.certs_are,
+      )
+
+  -- events that are each given something lead on from where a run stands
+  steps_there : (all : List Event) → GivesEach rules all → (events : List Event) (stand : TickStand A)
+      → all ≡ stand.events ++ events
+      → (last : TickStand A) × Along (TakesEvent rules) stand events last
+  steps_there all each [] stand is = (stand, refl)
+  steps_there all each (event ∷ events) stand is =
+      let given = each stand.events event events is in
+      let next = one_more stand event given.0 in
+      let rest = steps_there all each events next (is ∙ sym (append_assoc stand.events (event ∷ []) events)) in
+      (rest.0, (next, (given.0, given.1, refl), rest.1))
+
+  pub run_is_there : TickRunIsThere rules
+  run_is_there feed each =
+      let steps = steps_there feed.events each feed.events no_events refl in
+      let ends = exit_of feed.bad in (
+        ends.0,
+        lines_text rules steps.0.answers ++ unless_bad feed.bad (counts_text rules steps.0.answers),
+        certificates_text rules steps.0.answers,
+        record { stand = steps.0; steps = steps.1; ends = ends.1; out_is = refl; certs_are = refl },
+      )

@@ -1,0 +1,437 @@
+-- A run that answers ticks, from its start to its end.
+use Rattle.std.proofs.Common.{◌≡◌, ◌∙◌, sym, ap, subst, refl, ℕ, ◌+◌, ◌<◌, ◌≤◌, ◌⊎◌, inl, inr, Bool, true, false, List, [], ◌∷◌, ◌++◌, length, take, drop, map, Option, Some, None, IfSome, arith, Ok, Err}
+use Rattle.std.specs.List.{concat, sum_by}
+use Rattle.std.specs.Option.{option_to_list}
+use Rattle.std.proofs.lemmas.List.{append-nil, append_assoc, take-append-drop}
+use Rattle.vx_desk.specs.declared.device.Slot.{Slot}
+use Rattle.vx_desk.specs.declared.device.Slot.TheVariants.{Feed, Out, Certs}
+use Rattle.vx_desk.specs.Told.{Told}
+use Rattle.vx_feed.specs.declared.events.Event.{Event}
+use Rattle.vx_feed.specs.Feed.{Reading, stopped_at}
+use Rattle.vx_reading.specs.declared.feed.FeedReader.{FeedReader}
+use Rattle.vx_reading.specs.declared.stop.FeedCause.{FeedCause}
+use Rattle.vx_reading.specs.declared.stop.FeedStop.{FeedStop}
+use Rattle.vx_reading.specs.declared.stop.FeedStop.TheVariants as stop
+use Rattle.vx_reading.specs.FeedReading.{IsAt, IsReadTo, ReadsNext, Says, all_good, feed_told}
+use Rattle.vx_reading.specs.Stops.{bad_cause}
+use Rattle.vx_reading.proofs.FeedLemmas.{read_so_many}
+use Rattle.vx_drivers.specs.declared.exit.Exit.{Exit}
+use Rattle.vx_drivers.specs.declared.exit.Exit.TheVariants.{Done, BadFeed, NoMemory}
+use Rattle.vx_drivers.specs.declared.tick_run.TickRun.{TickRun}
+use Rattle.vx_drivers.specs.Along.{Along}
+use Rattle.vx_drivers.specs.Exits.{exit_of_stop, is_cut}
+use Rattle.vx_drivers.specs.Sending.{CutsOff, Sent, Text}
+use Rattle.vx_drivers.specs.TickRun.{AreWhole, GivesTickParts, RunsTicksBy, RunsTicksIf, TickRules, TickStand, TakesEvent, certificates_text, counts_text, lines_text, no_events, one_more}
+use Rattle.vx_drivers.specs.TickSteps.{CutsTick, HasAnswered, HasEndedTicks, IsAtEvent, IsNewTicks, IsThroughTicks, SendsNothing, SendsTick}
+use Rattle.vx_drivers.proofs.SendingLemmas.{sent_more, sent_none, sent_still}
+use Rattle.vx_drivers.proofs.TickLemmas.{counted_same, steps_more, text_last, texts_more}
+
+-- a list with one more at its end is split before that one, or at an earlier place
+split_last : {A : Type 0} (xs : List A) (a : A) (before : List A) (x : A) (after : List A)
+    → xs ++ a ∷ [] ≡ before ++ x ∷ after
+    → (before ≡ xs) ⊎ ((more : List A) × (xs ≡ before ++ x ∷ more))
+split_last [] a [] x after is = inl refl
+split_last [] a (b ∷ []) x after is = absurd (let no : ⊥ = cc in no)
+split_last [] a (b ∷ c ∷ before) x after is = absurd (let no : ⊥ = cc in no)
+split_last (y ∷ xs) a [] x after is = let first : y ≡ x = cc in inr (xs, ap (λ z. z ∷ xs) first)
+split_last (y ∷ xs) a (b ∷ before) x after is =
+    let first : y ≡ b = cc in
+    let rest : xs ++ a ∷ [] ≡ before ++ x ∷ after = cc in
+    further y b first (split_last xs a before x after rest)
+  where
+    further : (y b : _) → y ≡ b → (before ≡ xs) ⊎ ((more : List _) × (xs ≡ before ++ x ∷ more))
+        → (b ∷ before ≡ y ∷ xs) ⊎ ((more : List _) × (y ∷ xs ≡ b ∷ before ++ x ∷ more))
+    further y b first (inl same) = inl (ap (λ z. z ∷ before) (sym first) ∙ ap (λ l. y ∷ l) same)
+    further y b first (inr (more, same)) = inr (more, ap (λ l. y ∷ l) same ∙ ap (λ z. z ∷ before ++ x ∷ more) first)
+
+-- events that were taken up are the first ones of the feed, or of some feed where none is told
+record Firsts (feed : Option Reading) (events : List Event) : Type 0 where
+  over : Reading
+  feed_is : Says feed over
+  rest : List Event
+  are_first : over.events ≡ events ++ rest
+
+firsts : (feed : Option Reading) (events : List Event) → IfSome feed (IsReadTo (length events) events) → Firsts feed events
+firsts None events h = record { over = all_good events; feed_is = tt; rest = []; are_first = sym (append-nil events) }
+firsts (Some f) events h = record {
+  over = f;
+  feed_is = refl;
+  rest = drop (length events) f.events;
+  are_first = sym (take-append-drop (length events) f.events)
+      ∙ ap (λ t. t ++ drop (length events) f.events) (sym h.events_are);
+}
+
+no_firsts : (feed : Option Reading) → Firsts feed []
+no_firsts None = record { over = all_good []; feed_is = tt; rest = []; are_first = refl }
+no_firsts (Some f) = record { over = f; feed_is = refl; rest = f.events; are_first = refl }
+
+module _ {A : Type 0} (rules : TickRules A) where
+  -- ---- first parts of the texts
+
+  -- where all certificates are whole
+  whole_all : (answers : List A) (out : Text) → AreWhole rules answers out (certificates_text rules answers)
+  whole_all answers out before answer after is begun = (
+    certificates_text rules after,
+    ap (certificates_text rules) (is ∙ sym (append_assoc before (answer ∷ []) after))
+        ∙ texts_more rules.certificate (before ++ answer ∷ []) after,
+  )
+
+  -- and where a part of one more follows, of whose line nothing was sent
+  whole_but_last : (answers : List A) (answer : A) (part : Text)
+      → AreWhole rules (answers ++ answer ∷ []) (lines_text rules answers) (certificates_text rules answers ++ part)
+  whole_but_last answers answer part before x after is begun = by (split_last answers answer before x after is)
+    where
+      by : (before ≡ answers) ⊎ ((more : List A) × (answers ≡ before ++ x ∷ more))
+          → (more : Text) × (certificates_text rules answers ++ part ≡ certificates_text rules (before ++ x ∷ []) ++ more)
+      by (inl same) = let size = ap (λ l. length (lines_text rules l)) same in absurd (omega (arith, size, begun))
+      by (inr (more, same)) =
+          let whole = whole_all answers (lines_text rules answers) before x more same begun in (
+            whole.0 ++ part,
+            ap (λ t. t ++ part) whole.1
+                ∙ append_assoc (certificates_text rules (before ++ x ∷ [])) whole.0 part,
+          )
+
+  gives_whole : (over : Reading) (stand : TickStand A) (rest : List Event) → over.events ≡ stand.events ++ rest
+      → Along (TakesEvent rules) no_events stand.events stand
+      → GivesTickParts rules over (lines_text rules stand.answers) (certificates_text rules stand.answers)
+  gives_whole over stand rest first steps = record {
+    out_more = [];
+    certs_more = [];
+    gives = record {
+      stand = stand;
+      steps = steps;
+      rest = rest;
+      are_first = first;
+      last = [];
+      last_is = inl refl;
+      out_is = refl;
+      certs_are = append-nil (certificates_text rules stand.answers);
+    };
+    whole = whole_all stand.answers (lines_text rules stand.answers);
+  }
+
+  -- a part of the certificate
+  gives_certificate : (over : Reading) (old : TickStand A) (event : Event) (answer : A) (rest : List Event) (n : ℕ)
+      → over.events ≡ (old.events ++ event ∷ []) ++ rest
+      → Along (TakesEvent rules) no_events (old.events ++ event ∷ []) (one_more old event (Some answer))
+      → GivesTickParts rules over (lines_text rules old.answers)
+      (certificates_text rules old.answers ++ take n (rules.certificate answer))
+  gives_certificate over old event answer rest n first steps = record {
+    out_more = rules.line answer;
+    certs_more = drop n (rules.certificate answer);
+    gives = record {
+      stand = one_more old event (Some answer);
+      steps = steps;
+      rest = rest;
+      are_first = first;
+      last = [];
+      last_is = inl refl;
+      out_is = sym (append-nil (lines_text rules (old.answers ++ answer ∷ [])) ∙ text_last rules.line old.answers answer);
+      certs_are =
+          append_assoc (certificates_text rules old.answers) (take n (rules.certificate answer))
+          (drop n (rules.certificate answer))
+          ∙ ap (λ t. certificates_text rules old.answers ++ t) (take-append-drop n (rules.certificate answer))
+          ∙ sym (text_last rules.certificate old.answers answer);
+    };
+    whole = whole_but_last old.answers answer (take n (rules.certificate answer));
+  }
+
+  -- the certificate, and a part of the line
+  gives_line : (over : Reading) (old : TickStand A) (event : Event) (answer : A) (rest : List Event) (n : ℕ)
+      → over.events ≡ (old.events ++ event ∷ []) ++ rest
+      → Along (TakesEvent rules) no_events (old.events ++ event ∷ []) (one_more old event (Some answer))
+      → GivesTickParts rules over (lines_text rules old.answers ++ take n (rules.line answer))
+      (certificates_text rules (old.answers ++ answer ∷ []))
+  gives_line over old event answer rest n first steps = record {
+    out_more = drop n (rules.line answer);
+    certs_more = [];
+    gives = record {
+      stand = one_more old event (Some answer);
+      steps = steps;
+      rest = rest;
+      are_first = first;
+      last = [];
+      last_is = inl refl;
+      out_is =
+          append_assoc (lines_text rules old.answers) (take n (rules.line answer)) (drop n (rules.line answer))
+          ∙ ap (λ t. lines_text rules old.answers ++ t) (take-append-drop n (rules.line answer))
+          ∙ sym (text_last rules.line old.answers answer)
+          ∙ sym (append-nil (lines_text rules (old.answers ++ answer ∷ [])));
+      certs_are = append-nil (certificates_text rules (old.answers ++ answer ∷ []));
+    };
+    whole = whole_all (old.answers ++ answer ∷ []) (lines_text rules old.answers ++ take n (rules.line answer));
+  }
+
+  -- all answers, and a part of the last line
+  gives_last : (stand : TickStand A) (n : ℕ) → Along (TakesEvent rules) no_events stand.events stand
+      → GivesTickParts rules (all_good stand.events)
+      (lines_text rules stand.answers ++ take n (counts_text rules stand.answers)) (certificates_text rules stand.answers)
+  gives_last stand n steps = record {
+    out_more = drop n (counts_text rules stand.answers);
+    certs_more = [];
+    gives = record {
+      stand = stand;
+      steps = steps;
+      rest = [];
+      are_first = sym (append-nil stand.events);
+      last = counts_text rules stand.answers;
+      last_is = inr (refl, refl);
+      out_is =
+          append_assoc (lines_text rules stand.answers) (take n (counts_text rules stand.answers))
+          (drop n (counts_text rules stand.answers))
+          ∙ ap (λ t. lines_text rules stand.answers ++ t) (take-append-drop n (counts_text rules stand.answers));
+      certs_are = append-nil (certificates_text rules stand.answers);
+    };
+    whole = whole_all stand.answers (lines_text rules stand.answers ++ take n (counts_text rules stand.answers));
+  }
+
+  cut_by : (over : Reading) (out certs : Text) (exit : Exit) → is_cut exit ≡ true → GivesTickParts rules over out certs
+      → RunsTicksBy rules over exit out certs
+  cut_by over out certs exit cut parts = subst (λ b. RunsTicksIf rules over exit out certs b) (sym cut) parts
+
+  -- a run that is cut off before it reads
+  pub never_started : (feed : Option Reading) (told : Slot → Told) (exit : Exit) → is_cut exit ≡ true
+      → HasEndedTicks rules feed told told exit
+  never_started feed told exit cut =
+      let first = no_firsts feed in
+      record {
+        over = first.over;
+        feed_is = first.feed_is;
+        out = [];
+        certs = [];
+        runs = cut_by first.over [] [] exit cut (gives_whole first.over no_events first.rest first.are_first refl);
+        out_sent = sent_none (told Out) (told Out) refl;
+        certs_sent = sent_none (told Certs) (told Certs) refl;
+      }
+
+  module _ {T : Type 0} (StandsFor : T → List Event → Type 0) where
+    -- nothing was read
+    pub starts : (run : TickRun T) (told : Slot → Told) → IsNewTicks StandsFor run
+        → HasAnswered rules StandsFor (feed_told told) told run told
+    starts run told new =
+        let p : run.published ≡ 0 = new.published in
+        let u : run.undecided ≡ 0 = new.undecided in
+        let r : run.refused ≡ 0 = new.refused in
+        record {
+          stand = no_events;
+          between = record {
+            at = new.feed told;
+            steps = refl;
+            counted = record { published = p; undecided = u; refused = r; few = omega (arith, p, u, r) };
+          };
+          certs = sent_none (told Certs) (told Certs) refl;
+          out = sent_none (told Out) (told Out) refl;
+        }
+
+    module _ (feed : Option Reading) (before : Slot → Told) where
+      -- other slots of the desk changed
+      still : (f : A → Text) (answers : List A) (slot : Slot) (between now : Slot → Told)
+          → Sent (concat (map f answers)) (before slot) (between slot) → now slot ≡ between slot
+          → Sent (concat (map f answers)) (before slot) (now slot)
+      still f answers slot between now sent same = sent_still (concat (map f answers)) (before slot) (between slot)
+          (now slot) sent same
+
+      -- a text more was sent to a slot
+      more : (f : A → Text) (answers : List A) (text : Text) (slot : Slot) (between read now : Slot → Told)
+          → Sent (concat (map f answers)) (before slot) (between slot) → read slot ≡ between slot
+          → Sent text (read slot) (now slot) → Sent (concat (map f answers) ++ text) (before slot) (now slot)
+      more f answers text slot between read now sent same further =
+          sent_more (concat (map f answers)) text (before slot) (read slot) (now slot)
+          (still f answers slot between read sent same) further
+
+      -- ---- one event more
+
+      pub is_at_event : (old run : TickRun T) (between now : Slot → Told) (event : Event)
+          (way : HasAnswered rules StandsFor feed before old between)
+          → IsAt StandsFor feed (way.stand.events ++ event ∷ []) run.feed now → run.published ≡ old.published
+          → run.undecided ≡ old.undecided → run.refused ≡ old.refused
+          → IsAtEvent rules StandsFor feed way.stand event run now
+      is_at_event old run between now event way at p u r = record {
+        at = at;
+        steps = way.between.steps;
+        counted = counted_same rules way.stand old run p u r way.between.counted;
+      }
+
+      pub answered_on : (old run : TickRun T) (between read now : Slot → Told) (event : Event)
+          (way : HasAnswered rules StandsFor feed before old between)
+          → read Out ≡ between Out → read Certs ≡ between Certs
+          → SendsTick rules StandsFor feed way.stand event run read now
+          → HasAnswered rules StandsFor feed before run now
+      answered_on old run between read now event way out_same certs_same sends = record {
+        stand = one_more way.stand event sends.said;
+        between = sends.between;
+        certs = subst (λ t. Sent t (before Certs) (now Certs))
+            (sym (texts_more rules.certificate way.stand.answers (option_to_list sends.said)))
+            (more rules.certificate way.stand.answers (certificates_text rules (option_to_list sends.said))
+            Certs between read now way.certs certs_same sends.certs);
+        out = subst (λ t. Sent t (before Out) (now Out))
+            (sym (texts_more rules.line way.stand.answers (option_to_list sends.said)))
+            (more rules.line way.stand.answers (lines_text rules (option_to_list sends.said))
+            Out between read now way.out out_same sends.out);
+      }
+
+      -- ---- ends
+
+      -- nothing more was sent, and the run is cut off
+      pub cut_short : (run : TickRun T) (between now : Slot → Told) (exit : Exit)
+          → HasAnswered rules StandsFor feed before run between
+          → now Out ≡ between Out → now Certs ≡ between Certs → is_cut exit ≡ true
+          → HasEndedTicks rules feed before now exit
+      cut_short run between now exit way out_same certs_same cut =
+          let first = firsts feed way.stand.events
+          (read_so_many StandsFor feed (length way.stand.events) way.stand.events run.feed between way.between.at refl)
+          in
+          record {
+            over = first.over;
+            feed_is = first.feed_is;
+            out = lines_text rules way.stand.answers;
+            certs = certificates_text rules way.stand.answers;
+            runs = cut_by first.over (lines_text rules way.stand.answers) (certificates_text rules way.stand.answers)
+                exit cut
+                (gives_whole first.over way.stand first.rest first.are_first way.between.steps);
+            out_sent = still rules.line way.stand.answers Out between now way.out out_same;
+            certs_sent = still rules.certificate way.stand.answers Certs between now way.certs certs_same;
+          }
+
+      -- the feed is not read on
+      pub stop_ends : (run : TickRun T) (reader : FeedReader T) (between now : Slot → Told) (why : FeedStop)
+          (way : HasAnswered rules StandsFor feed before run between)
+          → now Out ≡ between Out → now Certs ≡ between Certs
+          → ReadsNext StandsFor feed way.stand.events reader now (Err why)
+          → HasEndedTicks rules feed before now (exit_of_stop why)
+      stop_ends run reader between now (stop.BadLine number why) way out_same certs_same (numbered, is_cause, says)
+          = record {
+            over = stopped_at way.stand.events (bad_cause why);
+            feed_is = says;
+            out = lines_text rules way.stand.answers;
+            certs = certificates_text rules way.stand.answers;
+            runs = record {
+              stand = way.stand;
+              steps = way.between.steps;
+              ends = (why, ap (λ n. BadFeed n why) numbered, refl);
+              out_is = sym (append-nil (lines_text rules way.stand.answers));
+              certs_are = refl;
+            };
+            out_sent = still rules.line way.stand.answers Out between now way.out out_same;
+            certs_sent = still rules.certificate way.stand.answers Certs between now way.certs certs_same;
+          }
+      stop_ends run reader between now stop.Device way out_same certs_same reads = cut_short run between now
+          (exit_of_stop stop.Device) way out_same certs_same refl
+      stop_ends run reader between now stop.NoMemory way out_same certs_same reads = cut_short run between now
+          (exit_of_stop stop.NoMemory) way out_same certs_same refl
+
+      -- the run ended at an event
+      pub event_ends : (run : TickRun T) (reader : FeedReader T) (between read now : Slot → Told) (event : Event)
+          (exit : Exit) (way : HasAnswered rules StandsFor feed before run between)
+          → read Out ≡ between Out → read Certs ≡ between Certs
+          → IsAt StandsFor feed (way.stand.events ++ event ∷ []) reader read
+          → SendsNothing read now exit ⊎ CutsTick rules way.stand event read now exit
+          → HasEndedTicks rules feed before now exit
+      event_ends run reader between read now event exit way out_same certs_same at (inl nothing) =
+          cut_short run between now exit way (nothing.out ∙ out_same) (nothing.certs ∙ certs_same) nothing.cut
+      event_ends run reader between read now event exit way out_same certs_same at (inr cuts) =
+          let events = way.stand.events ++ event ∷ [] in
+          let first = firsts feed events (read_so_many StandsFor feed (length events) events reader read at refl) in
+          let steps = steps_more rules way.stand event (Some cuts.answer) way.between.steps cuts.gives in
+          cut_at first steps cuts.cut
+        where
+          events : List Event
+          events = way.stand.events ++ event ∷ []
+
+          cut_at : Firsts feed events
+              → Along (TakesEvent rules) no_events events (one_more way.stand event (Some cuts.answer))
+              → (CutsOff Certs (rules.certificate cuts.answer) (read Certs) (now Certs) exit × (now Out ≡ read Out))
+              ⊎ (Sent (rules.certificate cuts.answer) (read Certs) (now Certs) × CutsOff Out (rules.line cuts.answer)
+              (read Out) (now Out) exit)
+              → HasEndedTicks rules feed before now exit
+          cut_at first steps (inl (cut, same)) = record {
+            over = first.over;
+            feed_is = first.feed_is;
+            out = lines_text rules way.stand.answers;
+            certs = certificates_text rules way.stand.answers ++ take cut.part.count (rules.certificate cuts.answer);
+            runs = cut_by first.over (lines_text rules way.stand.answers)
+                (certificates_text rules way.stand.answers ++ take cut.part.count (rules.certificate cuts.answer)) exit
+                (ap is_cut cut.exit_is)
+                (gives_certificate first.over way.stand event cuts.answer first.rest cut.part.count first.are_first steps);
+            out_sent = still rules.line way.stand.answers Out between now way.out (same ∙ out_same);
+            certs_sent = more rules.certificate way.stand.answers (take cut.part.count (rules.certificate cuts.answer))
+                Certs between read now way.certs certs_same cut.part.sent;
+          }
+          cut_at first steps (inr (sent, cut)) = record {
+            over = first.over;
+            feed_is = first.feed_is;
+            out = lines_text rules way.stand.answers ++ take cut.part.count (rules.line cuts.answer);
+            certs = certificates_text rules (way.stand.answers ++ cuts.answer ∷ []);
+            runs = cut_by first.over (lines_text rules way.stand.answers ++ take cut.part.count (rules.line cuts.answer))
+                (certificates_text rules (way.stand.answers ++ cuts.answer ∷ [])) exit (ap is_cut cut.exit_is)
+                (gives_line first.over way.stand event cuts.answer first.rest cut.part.count first.are_first steps);
+            out_sent = more rules.line way.stand.answers (take cut.part.count (rules.line cuts.answer))
+                Out between read now way.out out_same cut.part.sent;
+            certs_sent = subst (λ t. Sent t (before Certs) (now Certs))
+                (sym (text_last rules.certificate way.stand.answers cuts.answer))
+                (more rules.certificate way.stand.answers (rules.certificate cuts.answer)
+                Certs between read now way.certs certs_same sent);
+          }
+
+      -- ---- behind the last event
+
+      pub feed_ended : (old run : TickRun T) (between now : Slot → Told)
+          (way : HasAnswered rules StandsFor feed before old between)
+          → IsAt StandsFor feed way.stand.events run.feed now → Says feed (all_good way.stand.events)
+          → run.published ≡ old.published → run.undecided ≡ old.undecided → run.refused ≡ old.refused
+          → now Out ≡ between Out → now Certs ≡ between Certs
+          → IsThroughTicks rules StandsFor feed before run now
+      feed_ended old run between now way at says p u r out_same certs_same = record {
+        way = record {
+          stand = way.stand;
+          between = record {
+            at = at;
+            steps = way.between.steps;
+            counted = counted_same rules way.stand old run p u r way.between.counted;
+          };
+          certs = still rules.certificate way.stand.answers Certs between now way.certs certs_same;
+          out = still rules.line way.stand.answers Out between now way.out out_same;
+        };
+        says = says;
+      }
+
+      -- the last line is sent
+      pub last_sent : (run : TickRun T) (between now : Slot → Told) (text : Text)
+          (through : IsThroughTicks rules StandsFor feed before run between)
+          → now Certs ≡ between Certs → text ≡ counts_text rules through.way.stand.answers
+          → Sent text (between Out) (now Out)
+          → HasEndedTicks rules feed before now Done
+      last_sent run between now text through certs_same is sent =
+          let way = through.way in
+          record {
+            over = all_good way.stand.events;
+            feed_is = through.says;
+            out = lines_text rules way.stand.answers ++ counts_text rules way.stand.answers;
+            certs = certificates_text rules way.stand.answers;
+            runs = record { stand = way.stand; steps = way.between.steps; ends = refl; out_is = refl; certs_are = refl };
+            out_sent = more rules.line way.stand.answers (counts_text rules way.stand.answers)
+                Out between between now way.out refl (subst (λ t. Sent t (between Out) (now Out)) is sent);
+            certs_sent = still rules.certificate way.stand.answers Certs between now way.certs certs_same;
+          }
+
+      -- or a write of it fails
+      pub last_cut : (run : TickRun T) (between now : Slot → Told) (text : Text) (exit : Exit)
+          (through : IsThroughTicks rules StandsFor feed before run between)
+          → now Certs ≡ between Certs → text ≡ counts_text rules through.way.stand.answers
+          → CutsOff Out text (between Out) (now Out) exit
+          → HasEndedTicks rules feed before now exit
+      last_cut run between now text exit through certs_same is cut =
+          let way = through.way in
+          let part = take cut.part.count (counts_text rules way.stand.answers) in
+          record {
+            over = all_good way.stand.events;
+            feed_is = through.says;
+            out = lines_text rules way.stand.answers ++ part;
+            certs = certificates_text rules way.stand.answers;
+            runs = cut_by (all_good way.stand.events) (lines_text rules way.stand.answers ++ part)
+                (certificates_text rules way.stand.answers) exit (ap is_cut cut.exit_is)
+                (gives_last way.stand cut.part.count way.between.steps);
+            out_sent = more rules.line way.stand.answers part Out between between now way.out refl
+                (subst (λ t. Sent (take cut.part.count t) (between Out) (now Out)) is cut.part.sent);
+            certs_sent = still rules.certificate way.stand.answers Certs between now way.certs certs_same;
+          }
