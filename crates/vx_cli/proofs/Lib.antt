@@ -1,12 +1,13 @@
-mod AheadLemmas
-mod ExitLemmas
-mod FailureLemmas
 mod OperandLemmas
 mod RequestLemmas
 -- what is written is one
 mod CheckIsOne
 mod ReplayIsOne
 mod SettleIsOne
-mod ReadingLemmas
-mod TakeLemmas
-mod TextLemmas
+mod CheckLemmas
+mod JudgeLemmas
+mod VersionLemmas
+-- the answers of `replay`
+mod AnswerLemmas
+mod RangeLemmas
+mod ReplayLemmas

@@ -1,17 +1,21 @@
--- A feed has at most one output of `replay`, and a sample feed at most one of `drill`.
-use Rattle.std.proofs.Common.{◌≡◌, ℕ, List, [], ◌∷◌, ◌++◌, map, length, refl, sym, ◌∙◌, ap, subst}
+-- A feed has at most one run of `replay`, and a sample feed at most one output of `drill`.
+use Rattle.std.proofs.Common.{◌≡◌, ℕ, List, [], ◌∷◌, map, length, refl, sym, ◌∙◌, ap, subst}
 use Rattle.std.specs.Prelude.{codes}
 use Rattle.std.specs.List.{All}
 use Rattle.std.proofs.lemmas.List.Elements.{All-head, All-tail}
 use Rattle.vx_clock.specs.declared.limits.TheConstants.{INDEX_DAYS, INDEX_WINDOW}
 use Rattle.vx_feed.specs.declared.events.Event.{Event}
-use Rattle.vx_feed.specs.Feed.{lawful_prefix, bad_line}
+use Rattle.vx_feed.specs.Feed.{reading_of}
 use Rattle.vx_make.specs.Feed.{make_events}
 use Rattle.vx_replay.specs.Ticks.{IsTickAnswer}
+use Rattle.vx_drivers.proofs.TickLawLemmas.{run_is_one}
 use Rattle.vx_replay.proofs.TickAnswerIsOne.{tick_answer_is_one}
 use Rattle.vx_cli.specs.ExitText.{Text}
 use Rattle.vx_cli.specs.OutputLines.{line_of, count_text}
-use Rattle.vx_cli.specs.ReplayText.{Tick, Answered, AnswerTicks, ReplaysFor, answer_lines, certificate_lines, end_unless_bad, replay_end, tally_of}
+use Rattle.vx_cli.specs.Laws.{ReplayIsOne}
+use Rattle.vx_cli.specs.ReplayLaws.{gives_one}
+use Rattle.vx_cli.specs.ReplayRuns.{replay_rules}
+use Rattle.vx_cli.specs.ReplayText.{Tick, Answered, AnswerTicks, tally_of}
 use Rattle.vx_cli.specs.DrillText.{Drills}
 
 abbrev first_tick : Tick → List Tick → Tick
@@ -46,13 +50,9 @@ module _ (days window : ℕ) (events : List Event) where
   pub answers_are_one : (xs ys : List Answered) → AnswerTicks days window events xs → AnswerTicks days window events ys → xs ≡ ys
   answers_are_one xs ys h k = all_one xs ys (h.ticks_are ∙ sym k.ticks_are) h.each k.each
 
-pub replay_is_one : (days window : ℕ) (feed : List ℕ) (out certs other_out other_certs : Text)
-    → ReplaysFor days window feed out certs → ReplaysFor days window feed other_out other_certs → (out ≡ other_out) × (certs ≡ other_certs)
-replay_is_one days window feed out certs other_out other_certs h k =
-    let answers : h.answers ≡ k.answers = answers_are_one days window (lawful_prefix feed) h.answers k.answers h.are_answers k.are_answers in (
-      h.out_is ∙ ap (λ (xs : List Answered). answer_lines days xs ++ end_unless_bad (bad_line feed) (replay_end xs)) answers ∙ sym k.out_is,
-      h.certs_are ∙ ap certificate_lines answers ∙ sym k.certs_are,
-    )
+pub replay_is_one : ReplayIsOne
+replay_is_one feed exit other out certs other_out other_certs h k =
+    run_is_one replay_rules gives_one (reading_of feed) exit other out certs other_out other_certs h k
 
 pub drill_is_one : (number ticks : ℕ) (out other_out : Text) → Drills number ticks out → Drills number ticks other_out → out ≡ other_out
 drill_is_one number ticks out other_out h k =

@@ -7,14 +7,14 @@ use Rattle.vx_feed.specs.declared.faults.FeedFault.{FeedFault}
 use Rattle.vx_feed.specs.declared.faults.FeedFault.TheVariants as feed
 use Rattle.vx_settle.specs.declared.fault.PositionFault.{PositionFault}
 use Rattle.vx_settle.specs.declared.fault.PositionFault.TheVariants as position
-use Rattle.vx_cli.specs.declared.exit.Exit.{Exit}
-use Rattle.vx_cli.specs.declared.exit.Exit.TheVariants.{Done, SaidNo, Usage, BadFeed, OpenFault, ReadFault, WriteFault, NoMemory, BadPositions, BadCerts}
-use Rattle.vx_cli.specs.declared.exit.LineCause.{LineCause}
-use Rattle.vx_cli.specs.declared.exit.LineCause.TheVariants as line
-use Rattle.vx_cli.specs.declared.exit.FeedCause.{FeedCause}
-use Rattle.vx_cli.specs.declared.exit.FeedCause.TheVariants as feed_cause
-use Rattle.vx_cli.specs.declared.exit.PositionCause.{PositionCause}
-use Rattle.vx_cli.specs.declared.exit.PositionCause.TheVariants as position_cause
+use Rattle.vx_drivers.specs.declared.exit.Exit.{Exit}
+use Rattle.vx_drivers.specs.declared.exit.Exit.TheVariants.{Done, SaidNo, Usage, BadFeed, OpenFault, ReadFault, WriteFault, NoMemory, BadPositions, BadCerts}
+use Rattle.vx_drivers.specs.declared.exit.LineCause.{LineCause}
+use Rattle.vx_drivers.specs.declared.exit.LineCause.TheVariants as line
+use Rattle.vx_reading.specs.declared.stop.FeedCause.{FeedCause}
+use Rattle.vx_reading.specs.declared.stop.FeedCause.TheVariants as feed_cause
+use Rattle.vx_drivers.specs.declared.exit.PositionCause.{PositionCause}
+use Rattle.vx_drivers.specs.declared.exit.PositionCause.TheVariants as position_cause
 
 abbrev pub Text : Type 0
 Text = List ℕ

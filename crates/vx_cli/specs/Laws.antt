@@ -1,19 +1,21 @@
 -- The laws of what the commands write: each text is a function of what is read.
 use Rattle.std.specs.Prelude.{◌≡◌, ℕ, List}
+use Rattle.vx_drivers.specs.declared.exit.Exit.{Exit}
 use Rattle.vx_cli.specs.ExitText.{Text}
-use Rattle.vx_cli.specs.CheckRuns.{CheckRun, Checks}
-use Rattle.vx_cli.specs.ReplayText.{ReplaysFor}
+use Rattle.vx_cli.specs.CheckRuns.{Checks}
+use Rattle.vx_cli.specs.ReplayRuns.{Replays}
 use Rattle.vx_cli.specs.SettleText.{Settles}
 use Rattle.vx_cli.specs.DrillText.{Drills}
 
--- a feed and a file of certificates have at most one run of `check`, and so one text and one end
+-- over a feed and a file of certificates `check` has at most one exit and one text
 abbrev pub CheckIsOne : Type 0
-CheckIsOne = (feed certs : List ℕ) (a b : CheckRun) → Checks feed certs a → Checks feed certs b → a ≡ b
+CheckIsOne = (feed certs : List ℕ) (exit other : Exit) (text other_text : Text) →
+    Checks feed certs exit text → Checks feed certs other other_text → (exit ≡ other) × (text ≡ other_text)
 
--- a feed has at most one output and one file of certificates of `replay`
+-- over a feed `replay` has at most one exit, one output and one file of certificates
 abbrev pub ReplayIsOne : Type 0
-ReplayIsOne = (days window : ℕ) (feed : List ℕ) (out certs other_out other_certs : Text) →
-    ReplaysFor days window feed out certs → ReplaysFor days window feed other_out other_certs → (out ≡ other_out) × (certs ≡ other_certs)
+ReplayIsOne = (feed : List ℕ) (exit other : Exit) (out certs other_out other_certs : Text) →
+    Replays feed exit out certs → Replays feed other other_out other_certs → (exit ≡ other) × (out ≡ other_out) × (certs ≡ other_certs)
 
 -- and a feed and a file of positions have at most one of `settle`
 abbrev pub SettleIsOne : Type 0

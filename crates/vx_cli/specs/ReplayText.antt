@@ -1,11 +1,8 @@
--- What `replay` writes: for each tick of the feed its answer. This project's own format.
-use Rattle.std.specs.Prelude.{◌≡◌, ℕ, ◌+◌, Bool, true, false, List, [], ◌∷◌, ◌++◌, map, length, count_by, All, codes, Option, Some, None}
-use Rattle.std.specs.List.{concat}
+-- The line of a tick's answer, and the answers to all ticks of a feed. This project's own format.
+use Rattle.std.specs.Prelude.{◌≡◌, ℕ, ◌+◌, Bool, true, false, List, [], ◌∷◌, map, length, count_by, All, codes}
 use Rattle.vx_clock.specs.Clock.{clock_text}
-use Rattle.vx_clock.specs.declared.limits.TheConstants.{INDEX_DAYS, INDEX_WINDOW}
 use Rattle.vx_feed.specs.declared.events.Event.{Event}
 use Rattle.vx_feed.specs.declared.events.Event.TheVariants as event
-use Rattle.vx_feed.specs.Feed.{BadLine, lawful_prefix, bad_line}
 use Rattle.vx_cert.specs.Written.{certificate_text}
 use Rattle.vx_term.specs.declared.answer.TermRefusal.{TermRefusal}
 use Rattle.vx_term.specs.declared.answer.TermRefusal.TheVariants as refusal
@@ -99,37 +96,8 @@ is_undecided _ = false
 abbrev pub count_answers : (TickAnswer → Bool) → List Answered → ℕ
 count_answers is_kind answers = count_by (λ a. is_kind a.answer) answers
 
--- the lines of the answers
-abbrev pub answer_lines : ℕ → List Answered → Text
-answer_lines days answers = concat (map (λ a. tick_text days a.tick.time a.answer) answers)
-
 -- the answers' counts, with commas between: all, then the published, the undecided and the refused ones
 abbrev pub tally_of : List Answered → List Text
 tally_of answers =
     count_text (length answers) ∷ count_text (count_answers is_published answers)
     ∷ count_text (count_answers is_undecided answers) ∷ count_text (count_answers is_refused answers) ∷ []
-
--- `END,ticks,published,undecided,refused`
-abbrev pub replay_end : List Answered → Text
-replay_end answers = line_of (codes "END" ∷ tally_of answers)
-
--- the last line comes where the feed has no bad line
-abbrev pub end_unless_bad : Option BadLine → Text → Text
-end_unless_bad None text = text
-end_unless_bad (Some bad) text = []
-
--- the certificates of the published answers, in order
-abbrev pub certificate_lines : List Answered → Text
-certificate_lines answers = concat (map (λ a. certified_text a.answer) answers)
-
--- what `replay` of a feed's text writes to the output and to the file of certificates, for so many days within a window: all ticks of
--- the lawful prefix are answered
-pub record ReplaysFor (days window : ℕ) (feed : List ℕ) (out certs : Text) : Type 0 where
-  pub answers : List Answered
-  pub are_answers : AnswerTicks days window (lawful_prefix feed) answers
-  pub out_is : out ≡ answer_lines days answers ++ end_unless_bad (bad_line feed) (replay_end answers)
-  pub certs_are : certs ≡ certificate_lines answers
-
--- the index is that of 30 days
-abbrev pub Replays : List ℕ → Text → Text → Type 0
-Replays feed out certs = ReplaysFor INDEX_DAYS INDEX_WINDOW feed out certs

@@ -1,51 +1,145 @@
 -- A whole run.
-use Rattle.std.specs.Prelude.{◌≡◌, ◌==◌, ◌<◌, ◌≤◌, if◌then◌else◌, ℕ, List, length, take, Option, Some, None, false}
-use Rattle.std.specs.Io.KnownBytes.{append_known}
+use Rattle.std.specs.Prelude.{◌≡◌, ◌⊎◌, ℕ, Bool, true, List, [], Option, Some, None, IsTrue, IfSome, false}
+use Rattle.std.specs.Option.{option_map}
 use Rattle.vx_desk.specs.Told.{Told}
 use Rattle.vx_desk.specs.declared.device.Slot.{Slot}
 use Rattle.vx_desk.specs.declared.device.Slot.TheVariants.{Feed, Side, Out, Certs}
+use Rattle.vx_feed.specs.Feed.{Reading, reading_of}
 use Rattle.vx_make.specs.Feed.{make_text}
-use Rattle.vx_cli.specs.declared.exit.Exit.{Exit}
-use Rattle.vx_cli.specs.declared.exit.Exit.TheVariants.{Done, SaidNo, WriteFault, NoMemory}
-use Rattle.vx_cli.specs.Words.{Command, check, make}
-use Rattle.vx_cli.specs.Checking.{OpensOnlyAs}
+use Rattle.vx_reading.specs.FeedReading.{Says, feed_told}
+use Rattle.vx_drivers.specs.declared.exit.Exit.{Exit}
+use Rattle.vx_drivers.specs.declared.exit.Exit.TheVariants.{Done, OpenFault, WriteFault, NoMemory}
+use Rattle.vx_drivers.specs.CertificateExits.{IsCertificateExit}
+use Rattle.vx_drivers.specs.CertificateRun.{certificates_of}
+use Rattle.vx_drivers.specs.CertificateSteps.{HasEnded, certs_told}
+use Rattle.vx_drivers.specs.Sending.{Sent, SentPart, Text}
+use Rattle.vx_drivers.specs.TickExits.{IsTickExit}
+use Rattle.vx_drivers.specs.TickRun.{RunsTicksBy}
+use Rattle.vx_drivers.specs.TickSteps.{HasEndedTicks}
+use Rattle.vx_cli.specs.CheckRuns.{check_rules}
+use Rattle.vx_cli.specs.ReplayRuns.{replay_rules}
+use Rattle.vx_cli.specs.Words.{Command, check, make, replay}
 
--- `SaidNo` counts at least one
-abbrev pub SaysSomeNo : Exit → Type 0
-SaysSomeNo (SaidNo count) = 1 ≤ count
-SaysSomeNo _ = Unit {0}
+-- ---- how a command ends
 
--- the exit of a run that read and sent all, by how many certificate lines got a no
-abbrev pub said_exit : ℕ → Exit
-said_exit count = if count == 0 then Done else SaidNo count
+-- an open of one of its two slots fails, or it ends as a run that answers ticks does
+abbrev pub IsReplayExit : Exit → Type 0
+IsReplayExit (OpenFault Feed) = Unit {0}
+IsReplayExit (OpenFault Certs) = Unit {0}
+IsReplayExit exit = IsTickExit exit
+
+-- an open of one of its two slots fails, or it ends as a run that answers certificates does
+abbrev pub IsCheckExit : Exit → Type 0
+IsCheckExit (OpenFault Feed) = Unit {0}
+IsCheckExit (OpenFault Side) = Unit {0}
+IsCheckExit exit = IsCertificateExit exit
+
+abbrev pub IsMakeExit : Exit → Type 0
+IsMakeExit Done = Unit {0}
+IsMakeExit NoMemory = Unit {0}
+IsMakeExit (WriteFault Out) = Unit {0}
+IsMakeExit _ = ⊥
+
+-- an exit that the command may have
+abbrev pub IsExitOf : Exit → Command → Type 0
+IsExitOf exit (replay feed certs) = IsReplayExit exit
+IsExitOf exit (check feed certs) = IsCheckExit exit
+IsExitOf exit (make number ticks) = IsMakeExit exit
+
+-- ---- which slots are open at its end
 
 -- the slot is not open
 abbrev pub IsShut : Told → Type 0
 IsShut told = told.is_open ≡ false
 
--- each slot that a command opens is opened with the word that names it, and no other slot is opened
-abbrev pub OpensFor : Option Command → (Slot → Told) → Type 0
-OpensFor None told = IsShut (told Feed) × IsShut (told Side) × IsShut (told Certs)
-OpensFor (Some (check feed certs)) told =
-    OpensOnlyAs feed (told Feed) × OpensOnlyAs certs (told Side) × IsShut (told Certs)
-OpensFor (Some (make number ticks)) told = IsShut (told Feed) × IsShut (told Side) × IsShut (told Certs)
+-- no slot but the output is open
+abbrev pub OpensNothing : (Slot → Told) → Type 0
+OpensNothing told = IsShut (told Feed) × IsShut (told Side) × IsShut (told Certs)
 
--- the first bytes of a text were sent, so many as are told here, and not all of them
-pub record SendsPart (text : List ℕ) (before after : Told) : Type 0 where
-  pub count : ℕ
-  pub within : count < length text
-  pub sent : after.sent ≡ append_known before.sent (take count text)
+-- the slot is open, and where its name is told it is this one
+abbrev pub IsOpenAs : List ℕ → Told → Type 0
+IsOpenAs name told = IsTrue told.is_open × IfSome told.name (λ bytes. bytes ≡ name)
+
+-- both files of `replay` are open
+abbrev pub OpensToWrite : Text → Text → (Slot → Told) → Type 0
+OpensToWrite feed certs told = IsOpenAs feed (told Feed) × IsShut (told Side) × IsOpenAs certs (told Certs)
+
+-- what `replay` leaves open, by its exit: it opens the feed and then the file of certificates, unless memory is wanting
+-- before it opens any
+abbrev pub OpensToReplay : Text → Text → (Slot → Told) → Exit → Type 0
+OpensToReplay feed certs told (OpenFault Feed) = OpensNothing told
+OpensToReplay feed certs told (OpenFault Certs) = IsOpenAs feed (told Feed) × IsShut (told Side) × IsShut (told Certs)
+OpensToReplay feed certs told NoMemory = OpensNothing told ⊎ OpensToWrite feed certs told
+OpensToReplay feed certs told _ = OpensToWrite feed certs told
+
+-- both files of `check` are open
+abbrev pub OpensBoth : Text → Text → (Slot → Told) → Type 0
+OpensBoth feed certs told = IsOpenAs feed (told Feed) × IsOpenAs certs (told Side) × IsShut (told Certs)
+
+-- what `check` leaves open, by its exit: it opens the feed and then the certificates, unless memory is wanting before it
+-- opens any
+abbrev pub OpensToCheck : Text → Text → (Slot → Told) → Exit → Type 0
+OpensToCheck feed certs told (OpenFault Feed) = OpensNothing told
+OpensToCheck feed certs told (OpenFault Side) = IsOpenAs feed (told Feed) × IsShut (told Side) × IsShut (told Certs)
+OpensToCheck feed certs told NoMemory = OpensNothing told ⊎ OpensBoth feed certs told
+OpensToCheck feed certs told _ = OpensBoth feed certs told
+
+-- each slot that a command opens is opened with the word that names it, and no other slot is opened
+abbrev pub OpensFor : Option Command → (Slot → Told) → Exit → Type 0
+OpensFor None told exit = OpensNothing told
+OpensFor (Some (replay feed certs)) told exit = OpensToReplay feed certs told exit
+OpensFor (Some (check feed certs)) told exit = OpensToCheck feed certs told exit
+OpensFor (Some (make number ticks)) told exit = OpensNothing told
+
+-- ---- what it sends
 
 -- what a run of `make` sends, by its exit: the whole feed, or nothing for want of memory, or a first part
 -- of the feed before a write that failed; it has no other exit
 abbrev pub Makes : ℕ → ℕ → Told → Told → Exit → Type 0
-Makes number ticks before after Done = after.sent ≡ append_known before.sent (make_text number ticks)
+Makes number ticks before after Done = Sent (make_text number ticks) before after
 Makes number ticks before after NoMemory = after.sent ≡ before.sent
-Makes number ticks before after (WriteFault Out) = SendsPart (make_text number ticks) before after
+Makes number ticks before after (WriteFault Out) = SentPart (make_text number ticks) before after
 Makes number ticks before after _ = ⊥
 
--- what a command sends to the output, by the exit of its run; of `check` this says nothing
-abbrev pub SendsFor : Option Command → Told → Told → Exit → Type 0
-SendsFor None before after exit = after.sent ≡ before.sent
-SendsFor (Some (check feed certs)) before after exit = Unit {0}
-SendsFor (Some (make number ticks)) before after exit = Makes number ticks before after exit
+-- what a run of `check` sends, by its exit: over the bytes that the two names hold, where they are told, the text of a run
+-- that ends so, or a first part of it where a call fails or memory is wanting
+abbrev pub ChecksFiles : Text → Text → (List ℕ → Option (List ℕ)) → (Slot → Told) → (Slot → Told) → Exit → Type 0
+ChecksFiles feed certs holds before after exit =
+    HasEnded check_rules (option_map reading_of (holds feed)) (option_map certificates_of (holds certs)) (before Out) (after Out) exit
+
+-- the same of two files that are open
+abbrev pub ChecksOpen : (Slot → Told) → (Slot → Told) → Exit → Type 0
+ChecksOpen before after exit = HasEnded check_rules (feed_told before) (certs_told before) (before Out) (after Out) exit
+
+-- a text is all that was sent to a slot since its opening, where what was sent is told; to a slot that is not open
+-- nothing was sent
+abbrev pub SentIfOpen : Bool → Text → Told → Told → Type 0
+SentIfOpen true text before after = after.sent ≡ option_map (λ bytes. text) before.sent
+SentIfOpen false text before after = (text ≡ []) × (after.sent ≡ before.sent)
+
+-- what a run of `replay` sends over a feed, the one that is told, or some feed where none is: to the output and to the
+-- file of certificates the two texts of a run that ends so, or first parts of them where a call fails or memory is
+-- wanting, each certificate whole whose line was begun
+pub record HasReplayed (feed : Option Reading) (before after : Slot → Told) (exit : Exit) : Type 0 where
+  pub over : Reading
+  pub feed_is : Says feed over
+  pub out : Text
+  pub certs : Text
+  pub runs : RunsTicksBy replay_rules over exit out certs
+  pub out_sent : Sent out (before Out) (after Out)
+  pub certs_sent : SentIfOpen (after Certs).is_open certs (before Certs) (after Certs)
+
+-- the same of files that are open
+abbrev pub ReplaysOpen : (Slot → Told) → (Slot → Told) → Exit → Type 0
+ReplaysOpen before after exit = HasEndedTicks replay_rules (feed_told before) before after exit
+
+-- the same over the bytes that the feed's name holds
+abbrev pub ReplaysFile : Text → (List ℕ → Option (List ℕ)) → (Slot → Told) → (Slot → Told) → Exit → Type 0
+ReplaysFile feed holds before after exit = HasReplayed (option_map reading_of (holds feed)) before after exit
+
+-- what a command sends, by the exit of its run: `check` and `make` to the output alone
+abbrev pub SendsFor : Option Command → (List ℕ → Option (List ℕ)) → (Slot → Told) → (Slot → Told) → Exit → Type 0
+SendsFor None holds before after exit = (after Out).sent ≡ (before Out).sent
+SendsFor (Some (replay feed certs)) holds before after exit = ReplaysFile feed holds before after exit
+SendsFor (Some (check feed certs)) holds before after exit = ChecksFiles feed certs holds before after exit
+SendsFor (Some (make number ticks)) holds before after exit = Makes number ticks (before Out) (after Out) exit

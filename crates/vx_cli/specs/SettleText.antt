@@ -17,9 +17,9 @@ use Rattle.vx_soq.specs.declared.answer.OpeningAnswer.TheVariants.{Published, Re
 use Rattle.vx_soq.specs.declared.answer.SoqReason.{SoqReason}
 use Rattle.vx_soq.specs.declared.answer.SoqReason.TheVariants.{NoOpening, NoTerm, Term, NegativeVariance}
 use Rattle.vx_soq.specs.Openings.{IsOpeningAnswer}
-use Rattle.vx_cli.specs.declared.exit.PositionCause.{PositionCause}
-use Rattle.vx_cli.specs.declared.exit.PositionCause.TheVariants as cause
-use Rattle.vx_cli.specs.declared.limits.TheConstants.{POSITION_LINES_MAX, POSITION_LINE_LEN_MAX}
+use Rattle.vx_drivers.specs.declared.exit.PositionCause.{PositionCause}
+use Rattle.vx_drivers.specs.declared.exit.PositionCause.TheVariants as cause
+use Rattle.vx_drivers.specs.declared.limits.TheConstants.{POSITION_LINES_MAX, POSITION_LINE_LEN_MAX}
 use Rattle.vx_cli.specs.ExitText.{Text}
 use Rattle.vx_cli.specs.OutputLines.{line_of, count_text, signed_text, strike_text, cents_text, index_end_text, forward_end_text}
 use Rattle.vx_cli.specs.ReplayText.{refusal_word}

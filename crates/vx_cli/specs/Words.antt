@@ -21,15 +21,20 @@ abbrev pub two_of : List Text → Option (Text × Text)
 two_of (first ∷ second ∷ []) = Some (first, second)
 two_of _ = None
 
--- what a command line asks for: `check` with the names of its files, `make` with the number and the ticks
--- of a sample feed
+-- what a command line asks for: `replay` and `check` with the names of their files, `make` with the number and
+-- the ticks of a sample feed
 pub data Command : Type 0 where
+  replay : Text → Text → Command
   check : Text → Text → Command
   make : ℕ → ℕ → Command
 
 -- no file is named twice
 abbrev pub two_files : Text × Text → Option (Text × Text)
 two_files files = if bytes_eq files.0 files.1 then None else Some files
+
+-- `replay FEED CERTS`
+abbrev pub replay_form : List Text → Option Command
+replay_form operands = option_map (λ files. replay files.0 files.1) (option_and_then two_files (two_of operands))
 
 -- `check FEED CERTS`
 abbrev pub check_form : List Text → Option Command
@@ -53,7 +58,8 @@ make_form operands = option_map (λ sample. make sample.0 sample.1) (option_and_
 -- the form that a command's name asks for
 abbrev pub named_form : Text → List Text → Option Command
 named_form name operands =
-    if bytes_eq name (codes "check") then check_form operands
+    if bytes_eq name (codes "replay") then replay_form operands
+    else if bytes_eq name (codes "check") then check_form operands
     else if bytes_eq name (codes "make") then make_form operands
     else None
 

@@ -1,229 +1,127 @@
-ghost use Rattle.std.specs.Prelude.{◌≡◌, ◌+◌, ◌≤◌, ◌<◌, IsTrue, IfErr, OnOk, OnErr, false};
-ghost use Rattle.vx_desk.specs.Told.{OutIsOpen};
-ghost use Rattle.vx_cli.specs.Checking.{IsChecking, OpensOnlyAs, counted};
-ghost use Rattle.vx_cli.specs.Exits.{IsStop};
-ghost use Rattle.vx_cli.specs.Failures.{KeepsSlots, StepFailures};
+//! The command `check`: the checker's answers to the lines of a file of certificates.
 
-use crate::answer::{Answer, Figure, Reason, Tally, push_answer, push_end};
-use crate::devices::{open_slot, send_line};
-use crate::exit::{Exit, LineCause};
-use crate::feed::FeedReader;
-use crate::limits::{CERT_LINE_LEN_MAX, CERT_LINES_MAX};
-use crate::lines::next_cert_line;
+ghost use Rattle.std.specs.Prelude.{◌≡◌, IsTrue, false};
+ghost use Rattle.vx_desk.specs.Told.{OnlyOutIsOpen};
+ghost use Rattle.vx_reading.specs.Failures.{Failures, IsStep};
+ghost use Rattle.vx_drivers.specs.CertificateExits.{IsCertificateExit};
+ghost use Rattle.vx_drivers.specs.Exits.{exit_calls};
+ghost use Rattle.vx_cli.specs.Runs.{ChecksFiles, ChecksOpen, IsCheckExit, OpensToCheck};
+
+use crate::complaint::push_field_word;
+use crate::words::{push_test, push_yes};
 use std::alloc::Global;
-use vx_cert::{CertBody, CertFault, Certificate, read_cert};
-use vx_check::{PlainBook, Verdict, check_cert, is_tested};
-use vx_desk::{Desk, LineReader, Slot};
+use vx_cert::{CertFault, Certificate, read_cert};
+use vx_check::{PlainBook, Verdict, check_cert};
+use vx_desk::{Desk, Slot};
+use vx_drivers::text::push_text;
+use vx_drivers::{AnswersCertificates, Exit, TakesEvents, answer_certificates, open_slot};
+use vx_feed::Event;
 use vx_num::NoMemory;
 
-/// The figure that a certificate states.
-fn figure_of(body: &CertBody) -> Figure {
-    match body {
-        CertBody::K0 { k0, .. } => Figure::Level(*k0),
-        CertBody::Single { figure, .. }
-        | CertBody::Index { figure, .. }
-        | CertBody::Soq { figure, .. } => Figure::Cents(figure.cents),
-    }
-}
-
-/// Tests a certificate over what is known of the feed.
-fn judge(book: &PlainBook, certificate: &Certificate) -> Answer {
-    if !is_tested(certificate) {
-        return Answer::No(Reason::NotYet);
-    }
-    match check_cert(book, certificate) {
-        Verdict::Yes => Answer::Yes {
-            time: certificate.time,
-            figure: figure_of(&certificate.body),
-        },
-        Verdict::No(test) => Answer::No(Reason::Test(test)),
-    }
-}
-
-/// A run of `check`: the feed, and what was answered so far.
+/// The checker's book, which takes up the events of a feed.
 #[derive(Drop)]
-pub(crate) struct Check {
-    feed: FeedReader,
-    /// The last feed line that a readable certificate named.
-    reached: u64,
-    tally: Tally,
-    /// The output line at hand.
-    line: Vec<u8>,
+struct FeedBook {
+    book: PlainBook,
 }
 
-/// Counts one more answer.
-fn count(tally: Tally, answer: Answer) -> Tally
-    requires { tally.yes + tally.no < CERT_LINES_MAX }
-    ensures { result ≡ counted tally answer }
-{
-    match answer {
-        Answer::Yes { .. } => Tally {
-            yes: tally.yes + 1,
-            no: tally.no,
-        },
-        Answer::No(_) => Tally {
-            yes: tally.yes,
-            no: tally.no + 1,
-        },
+impl TakesEvents for FeedBook {
+    ghost use Rattle.vx_check.specs.StandsFor.{StandsFor};
+
+    ghost StandsFor = { λ taker events. StandsFor taker.book events };
+
+    fn take(&mut self, event: Event) -> Result<(), NoMemory> {
+        self.book.push(event)
     }
 }
 
-impl Check {
-    ghost use Rattle.std.specs.Prelude.{◌≡◌, ◌+◌, ◌≤◌, ◌<◌, IsTrue, IfOk, IfErr, OnOk, OnErr};
-    ghost use Rattle.vx_desk.specs.Told.{OutIsOpen};
-    ghost use Rattle.vx_cli.specs.Checking.{IsChecking};
-    ghost use Rattle.vx_cli.specs.Exits.{IsStop};
-    ghost use Rattle.vx_cli.specs.Failures.{KeepsSlots, StepFailures};
+/// Answers certificates by the checker.
+#[derive(Drop)]
+struct Checker {
+    alloc: Global,
+}
 
-    /// A run that has read nothing.
-    fn new(alloc: Global) -> Result<Check, NoMemory>
-        ensures { IfOk result (λ check. IsChecking check × (check.tally.yes + check.tally.no ≡ 0)) }
-    {
-        Ok(Check {
-            feed: FeedReader::new(alloc)?,
-            reached: 0,
-            tally: Tally { yes: 0, no: 0 },
-            line: Vec::new(alloc),
-        })
-    }
+impl AnswersCertificates for Checker {
+    ghost use Rattle.vx_cli.specs.CheckLaws.{certificate_judges_one, line_reads_one};
+    ghost use Rattle.vx_cli.specs.CheckRuns.{check_rules};
 
-    /// The answer to a certificate line. It reads the feed up to the line that the certificate names.
-    fn answer<D: Desk>(&mut self, alloc: Global, desk: &mut D, line: &[u8]) -> Result<Answer, Exit>
-        requires checking { IsChecking self.old }
-        requires open { IsTrue (D.told desk.old Slot.Feed).is_open }
-        ensures checking { OnOk result (IsChecking self.new) }
-        ensures tally { self.new.tally ≡ self.old.tally }
-        ensures stops { IfErr result IsStop }
-        ensures failures { StepFailures result (D.told desk.old) (D.told desk.new) }
-        ensures slots { KeepsSlots (D.told desk.old) (D.told desk.new) }
-    {
-        let certificate = match read_cert(alloc, line) {
-            Ok(certificate) => certificate,
-            Err(CertFault::NoMemory) => return Err(Exit::NoMemory),
-            Err(CertFault::Syntax) => return Ok(Answer::No(Reason::Syntax)),
-            Err(CertFault::Field(field)) => return Ok(Answer::No(Reason::Field(field))),
-        };
-        if certificate.line < self.reached {
-            return Ok(Answer::No(Reason::Order));
+    type Book = FeedBook;
+
+    type Certificate = Certificate;
+
+    ghost rules = { check_rules };
+
+    fn read(&self, line: &[u8], word: &mut Vec<u8>) -> Result<Option<Certificate>, NoMemory> {
+        match read_cert(self.alloc, line) {
+            Ok(certificate) => Ok(Some(certificate)),
+            Err(CertFault::Syntax) => {
+                push_text(word, "syntax")?;
+                Ok(None)
+            }
+            Err(CertFault::Field(field)) => {
+                push_field_word(self.alloc, word, field)?;
+                Ok(None)
+            }
+            Err(CertFault::NoMemory) => Err(NoMemory),
         }
-        self.reached = certificate.line;
-        self.feed.read_to(desk, certificate.line)?;
-        Ok(judge(self.feed.book(), &certificate))
     }
 
-    /// Answers one more certificate line on the output.
-    #[tactic(auto, using(crate::proofs::FailureLemmas::failures_trans, crate::proofs::FailureLemmas::step_trans))]
-    fn answer_line<D: Desk>(&mut self, alloc: Global, desk: &mut D, line: &[u8]) -> Result<(), Exit>
-        requires checking { IsChecking self.old }
-        requires room { self.old.tally.yes + self.old.tally.no < CERT_LINES_MAX }
-        requires open { IsTrue (D.told desk.old Slot.Feed).is_open }
-        requires out { OutIsOpen (D.told desk.old) }
-        ensures checking { OnOk result (IsChecking self.new) }
-        ensures tally { OnOk result (self.new.tally.yes + self.new.tally.no ≡ self.old.tally.yes + self.old.tally.no + 1) }
-        ensures stops { IfErr result IsStop }
-        ensures failures { StepFailures result (D.told desk.old) (D.told desk.new) }
-        ensures slots { KeepsSlots (D.told desk.old) (D.told desk.new) }
-    {
-        let answer = self.answer(alloc, desk, line)?;
-        let number = self.tally.yes + self.tally.no + 1;
-        self.tally = count(self.tally, answer);
-        self.line.clear();
-        push_answer(alloc, &mut self.line, number, answer)?;
-        send_line(desk, self.line.as_slice())
+    fn line_named(&self, certificate: &Certificate) -> u64 {
+        certificate.line
     }
 
-    /// Reads the rest of the feed and sends the last line. It answers how many certificate lines got
-    /// a no.
-    #[tactic(auto, using(crate::proofs::FailureLemmas::failures_trans, crate::proofs::FailureLemmas::step_trans))]
-    fn finish<D: Desk>(&mut self, alloc: Global, desk: &mut D) -> Result<u64, Exit>
-        requires checking { IsChecking self.old }
-        requires few { self.old.tally.yes + self.old.tally.no ≤ CERT_LINES_MAX }
-        requires open { IsTrue (D.told desk.old Slot.Feed).is_open }
-        requires out { OutIsOpen (D.told desk.old) }
-        ensures count { IfOk result (λ count. count ≡ self.old.tally.no) }
-        ensures stops { IfErr result IsStop }
-        ensures failures { StepFailures result (D.told desk.old) (D.told desk.new) }
-        ensures slots { KeepsSlots (D.told desk.old) (D.told desk.new) }
-    {
-        self.feed.read_to(desk, u64::MAX)?;
-        let tally = self.tally;
-        self.line.clear();
-        push_end(alloc, &mut self.line, tally.yes + tally.no, tally)?;
-        send_line(desk, self.line.as_slice())?;
-        Ok(tally.no)
+    fn judge(
+        &self,
+        taker: &FeedBook,
+        certificate: &Certificate,
+        words: &mut Vec<u8>,
+    ) -> Result<bool, NoMemory> {
+        match check_cert(&taker.book, certificate) {
+            Verdict::Yes => {
+                push_yes(self.alloc, words, certificate)?;
+                Ok(true)
+            }
+            Verdict::No(test) => {
+                push_test(self.alloc, words, test)?;
+                Ok(false)
+            }
+        }
     }
+
+    ghost reads_one = { line_reads_one };
+
+    ghost judges_one = { certificate_judges_one };
 }
 
-/// Answers each certificate line.
-#[tactic(auto, using(crate::proofs::FailureLemmas::failures_trans, crate::proofs::FailureLemmas::step_trans))]
-fn answer_lines<D: Desk>(
-    alloc: Global,
-    desk: &mut D,
-    certs: &mut LineReader,
-    check: &mut Check,
-) -> Result<(), Exit>
-    requires checking { IsChecking check.old }
-    requires start { check.old.tally.yes + check.old.tally.no ≡ 0 }
-    requires slot { certs.old.slot ≡ Slot.Side }
+/// Answers each line of the certificates over the feed, with both of them open.
+fn check_open<D: Desk>(alloc: Global, desk: &mut D) -> Exit
     requires feed { IsTrue (D.told desk.old Slot.Feed).is_open }
     requires side { IsTrue (D.told desk.old Slot.Side).is_open }
-    requires out { OutIsOpen (D.told desk.old) }
-    ensures checking { OnOk result (IsChecking check.new) }
-    ensures few { OnOk result (check.new.tally.yes + check.new.tally.no ≤ CERT_LINES_MAX) }
-    ensures stops { IfErr result IsStop }
-    ensures failures { StepFailures result (D.told desk.old) (D.told desk.new) }
-    ensures slots { KeepsSlots (D.told desk.old) (D.told desk.new) }
+    requires out { IsTrue (D.told desk.old Slot.Out).is_open }
+    ensures ends { ChecksOpen (D.told desk.old) (D.told desk.new) result }
+    ensures exits { IsCertificateExit result }
+    ensures step { IsStep (exit_calls result) (D.told desk.old) (D.told desk.new) }
 {
-    for _ in 0..CERT_LINES_MAX {
-        let Some(line) = next_cert_line(certs, desk)? else {
-            return Ok(());
-        };
-        check.answer_line(alloc, desk, certs.bytes(&line))?;
-    }
-    match next_cert_line(certs, desk)? {
-        None => Ok(()),
-        Some(_) => Err(Exit::BadCerts {
-            line: CERT_LINES_MAX + 1,
-            cause: LineCause::TooMany,
-        }),
+    match PlainBook::new(alloc) {
+        Ok(book) => answer_certificates(alloc, &Checker { alloc }, FeedBook { book }, desk),
+        Err(NoMemory) => Exit::NoMemory,
     }
 }
 
-/// Answers each certificate line over the feed, with both slots open, and then sends the last line.
-#[tactic(auto, using(crate::proofs::FailureLemmas::failures_trans, crate::proofs::FailureLemmas::step_trans))]
-fn check_open<D: Desk>(alloc: Global, desk: &mut D) -> Result<u64, Exit>
-    requires feed { IsTrue (D.told desk.old Slot.Feed).is_open }
-    requires side { IsTrue (D.told desk.old Slot.Side).is_open }
-    requires out { OutIsOpen (D.told desk.old) }
-    ensures stops { IfErr result IsStop }
-    ensures failures { StepFailures result (D.told desk.old) (D.told desk.new) }
-    ensures slots { KeepsSlots (D.told desk.old) (D.told desk.new) }
+/// Answers each line of a file of certificates over a feed, and opens both for it.
+pub(crate) fn check_files<D: Desk>(alloc: Global, desk: &mut D, feed: &str, certs: &str) -> Exit
+    requires closed { OnlyOutIsOpen (D.told desk.old) }
+    ensures sends { ChecksFiles feed.now certs.now (D.holds desk.old) (D.told desk.old) (D.told desk.new) result }
+    ensures exits { IsCheckExit result }
+    ensures failures { Failures (exit_calls result) (D.told desk.old) (D.told desk.new) }
+    ensures opens { OpensToCheck feed.now certs.now (D.told desk.new) result }
 {
-    let mut certs = LineReader::new(alloc, Slot::Side, CERT_LINE_LEN_MAX)?;
-    let mut check = Check::new(alloc)?;
-    answer_lines(alloc, desk, &mut certs, &mut check)?;
-    check.finish(alloc, desk)
-}
-
-/// Answers each line of a file of certificates over a feed. It answers how many got a no.
-#[tactic(auto, using(crate::proofs::FailureLemmas::failures_trans, crate::proofs::FailureLemmas::step_trans))]
-pub(crate) fn check_certificates<D: Desk>(
-    alloc: Global,
-    desk: &mut D,
-    feed: &str,
-    certs: &str,
-) -> Result<u64, Exit>
-    requires feed { (D.told desk.old Slot.Feed).is_open ≡ false }
-    requires side { (D.told desk.old Slot.Side).is_open ≡ false }
-    requires certs { (D.told desk.old Slot.Certs).is_open ≡ false }
-    requires out { OutIsOpen (D.told desk.old) }
-    ensures stops { IfErr result IsStop }
-    ensures failures { StepFailures result (D.told desk.old) (D.told desk.new) }
-    ensures feed { OpensOnlyAs feed.now (D.told desk.new Slot.Feed) }
-    ensures side { OpensOnlyAs certs.now (D.told desk.new Slot.Side) }
-    ensures certs { (D.told desk.new Slot.Certs).is_open ≡ false }
-{
-    open_slot(desk, Slot::Feed, feed)?;
-    open_slot(desk, Slot::Side, certs)?;
+    match open_slot(desk, Slot::Feed, feed) {
+        Ok(()) => {}
+        Err(exit) => return exit,
+    }
+    match open_slot(desk, Slot::Side, certs) {
+        Ok(()) => {}
+        Err(exit) => return exit,
+    }
     check_open(alloc, desk)
 }

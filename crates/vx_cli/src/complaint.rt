@@ -1,11 +1,11 @@
 ghost use Rattle.std.specs.Prelude.{◌≡◌, ◌++◌, IfOk, OnOk};
-ghost use Rattle.vx_cli.specs.Exits.{IsWithoutNoMemory};
+ghost use Rattle.vx_drivers.specs.Exits.{IsWithoutNoMemory};
 ghost use Rattle.vx_cli.specs.ExitText.{bad_certs_text, bad_feed_text, bad_positions_text, complaint, exit_text, failed_call_text, feed_fault_word, feed_word, field_word, line_word, place, position_fault_word, position_word, slot_word};
 
-use crate::exit::{Exit, FeedCause, LineCause, PositionCause};
-use crate::text::{push_number, push_text};
 use std::alloc::Global;
 use vx_desk::Slot;
+use vx_drivers::text::{push_number, push_text};
+use vx_drivers::{Exit, FeedCause, LineCause, PositionCause};
 use vx_feed::FeedFault;
 use vx_num::NoMemory;
 use vx_settle::PositionFault;

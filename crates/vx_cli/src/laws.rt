@@ -7,7 +7,7 @@ pub fn check_is_one()
     ensures { CheckIsOne }
 {}
 
-/// What `replay` writes is a function of the feed.
+/// What `replay` writes, and where its run ends, is a function of the feed.
 pub fn replay_is_one()
     ensures { ReplayIsOne }
 {}

@@ -1,23 +1,18 @@
 //! The commands of `vixcert`: their words, what they send, and the exit that each run ends in.
 #![tactic(auto)]
 
-mod ahead;
-mod answer;
 mod check;
 mod complaint;
-mod devices;
-mod exit;
-mod feed;
 mod laws;
-pub mod limits;
-mod lines;
 mod make;
 mod operands;
 mod program;
+mod replay;
 mod request;
-mod text;
+mod tick_lines;
+mod words;
 
 pub use complaint::exit_line;
-pub use exit::{Exit, FeedCause, LineCause, PositionCause};
 pub use laws::{check_is_one, drill_is_one, replay_is_one, settle_is_one};
 pub use program::run;
+pub use vx_drivers::{Exit, FeedCause, LineCause, PositionCause};

@@ -1,12 +1,14 @@
-ghost use Rattle.std.specs.Prelude.{◌≡◌, ◌≢◌, ◌<◌, ◌≤◌};
-ghost use Rattle.vx_desk.specs.Told.{ChangesOnly, OutIsOpen};
-ghost use Rattle.vx_cli.specs.Exits.{IsWithoutNoMemory};
-ghost use Rattle.vx_cli.specs.Failures.{Failures, failed_calls};
-ghost use Rattle.vx_cli.specs.Runs.{Makes, SaysSomeNo};
+//! The command `make`: a sample feed.
 
-use crate::exit::Exit;
+ghost use Rattle.std.specs.Prelude.{◌≡◌, ◌<◌, ◌≤◌};
+ghost use Rattle.vx_desk.specs.Told.{ChangesOnly, OutIsOpen};
+ghost use Rattle.vx_reading.specs.Failures.{Failures};
+ghost use Rattle.vx_drivers.specs.Exits.{exit_calls};
+ghost use Rattle.vx_cli.specs.Runs.{IsMakeExit, Makes};
+
 use std::alloc::Global;
 use vx_desk::{Desk, Slot, send};
+use vx_drivers::Exit;
 use vx_make::limits::{STATES, TICKS_MAX};
 use vx_make::make_feed;
 use vx_num::NoMemory;
@@ -19,10 +21,8 @@ pub(crate) fn send_sample<D: Desk>(alloc: Global, desk: &mut D, number: u32, tic
     requires out { OutIsOpen (D.told desk.old) }
     ensures makes { Makes number ticks (D.told desk.old Slot.Out) (D.told desk.new Slot.Out) result }
     ensures others { ChangesOnly Slot.Out (D.told desk.old) (D.told desk.new) }
-    ensures failures { Failures (failed_calls result) (D.told desk.old) (D.told desk.new) }
-    ensures usage { result ≢ Exit.Usage }
-    ensures causes { IsWithoutNoMemory result }
-    ensures some_no { SaysSomeNo result }
+    ensures failures { Failures (exit_calls result) (D.told desk.old) (D.told desk.new) }
+    ensures exits { IsMakeExit result }
 {
     let feed = match make_feed(alloc, number, ticks) {
         Ok(feed) => feed,

@@ -1,7 +1,8 @@
-ghost use Rattle.std.specs.Prelude.{◌≡◌, ◌<◌, ◌≤◌, true, IfOk, IfSome, map, option_map, string_bytes};
+ghost use Rattle.std.specs.Prelude.{◌≡◌, ◌<◌, ◌≤◌, true, IfOk, IfSome, map, option_and_then, option_map, string_bytes};
 ghost use Rattle.std.specs.List.{list_all};
 ghost use Rattle.vx_cli.specs.Requests.{IsInRange, asked};
-ghost use Rattle.vx_cli.specs.Words.{check_form, command_of, is_plain_word, make_form, named_form, number_of, ticks_of};
+ghost use Rattle.vx_cli.specs.Words.{check_form, command_of, is_plain_word, make_form, named_form, number_of, replay_form};
+ghost use Rattle.vx_cli.specs.Words.{ticks_of, two_files, two_of};
 
 use crate::operands::two_operands;
 use std::alloc::Global;
@@ -11,6 +12,8 @@ use vx_num::{NoMemory, read_decimal};
 /// What a command line asks for.
 #[derive(Clone, Copy)]
 pub(crate) enum Request<'a> {
+    /// Answer each tick of a feed, with the certificates of its figures.
+    Replay { feed: &'a str, certs: &'a str },
     /// Answer each certificate line over a feed.
     Check { feed: &'a str, certs: &'a str },
     /// Send the sample feed of a number below 2^31, with so many ticks, 1 to 390.
@@ -34,18 +37,45 @@ fn are_plain(words: &[String]) -> bool
     words.iter().all(|word| is_plain(word.as_str()))
 }
 
+/// Reads the names of two files, which differ.
+fn read_files<'a>(
+    alloc: Global,
+    operands: &'a [String],
+) -> Result<Option<(&'a str, &'a str)>, NoMemory>
+    requires { list_all is_plain_word (map string_bytes operands.now) ≡ true }
+    ensures { IfOk result (λ r. option_map (λ p. (p.0.now, p.1.now)) r
+        ≡ option_and_then two_files (two_of (map string_bytes operands.now))) }
+{
+    let Some((first, second)) = two_operands(alloc, operands)? else {
+        return Ok(None);
+    };
+    if first == second {
+        return Ok(None);
+    }
+    Ok(Some((first, second)))
+}
+
+/// Reads the operands of `replay`.
+fn read_replay<'a>(alloc: Global, operands: &'a [String]) -> Result<Option<Request<'a>>, NoMemory>
+    requires { list_all is_plain_word (map string_bytes operands.now) ≡ true }
+    ensures asked { IfOk result (λ r. option_map asked r ≡ replay_form (map string_bytes operands.now)) }
+    ensures in_range { IfOk result (λ r. IfSome r IsInRange) }
+{
+    let Some((feed, certs)) = read_files(alloc, operands)? else {
+        return Ok(None);
+    };
+    Ok(Some(Request::Replay { feed, certs }))
+}
+
 /// Reads the operands of `check`.
 fn read_check<'a>(alloc: Global, operands: &'a [String]) -> Result<Option<Request<'a>>, NoMemory>
     requires { list_all is_plain_word (map string_bytes operands.now) ≡ true }
     ensures asked { IfOk result (λ r. option_map asked r ≡ check_form (map string_bytes operands.now)) }
     ensures in_range { IfOk result (λ r. IfSome r IsInRange) }
 {
-    let Some((feed, certs)) = two_operands(alloc, operands)? else {
+    let Some((feed, certs)) = read_files(alloc, operands)? else {
         return Ok(None);
     };
-    if feed == certs {
-        return Ok(None);
-    }
     Ok(Some(Request::Check { feed, certs }))
 }
 
@@ -98,7 +128,9 @@ fn read_operands<'a>(
     ensures asked { IfOk result (λ r. option_map asked r ≡ named_form name.now (map string_bytes operands.now)) }
     ensures in_range { IfOk result (λ r. IfSome r IsInRange) }
 {
-    if name == "check" {
+    if name == "replay" {
+        read_replay(alloc, operands)
+    } else if name == "check" {
         read_check(alloc, operands)
     } else if name == "make" {
         read_make(alloc, operands)

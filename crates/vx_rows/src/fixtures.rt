@@ -1,7 +1,7 @@
 //! Inputs that the tests share, and how a run is made.
 
 ghost use Rattle.std.specs.Prelude.{◌≤◌, IfOk};
-ghost use Rattle.vx_cli.specs.Exits.{IsWithoutNoMemory};
+ghost use Rattle.vx_drivers.specs.Exits.{IsWithoutNoMemory};
 ghost use Rattle.vx_desk.specs.Memory.{told_memory};
 ghost use Rattle.vx_desk.specs.Told.{OnlyOutIsOpen};
 
@@ -28,12 +28,45 @@ pub(crate) const END: &str = "END,13\n";
 /// The whole sample feed.
 pub(crate) const FEED: [&str; 5] = [DECLARED, LISTED, QUOTED, TICK, END];
 
+// The same series and quotes of the second expiry.
+const LISTED_NEXT: &str =
+    "S,SPXW  141024C01900000\nS,SPXW  141024P01900000\nS,SPXW  141024C02000000\nS,SPXW  141024P02000000\nS,SPXW  141024C02100000\nS,SPXW  141024P02100000\n";
+
+const QUOTED_NEXT: &str =
+    "Q,08:30,SPXW  141024P01900000,10.00,10.00\nQ,08:30,SPXW  141024C02000000,50.00,50.00\nQ,08:30,SPXW  141024P02000000,50.00,50.00\nQ,08:30,SPXW  141024C02100000,10.00,10.00\n";
+
+/// The sample feed of two expiries, whose tick is in line 26.
+pub(crate) const TWO_EXPIRIES: [&str; 7] = [
+    "H,1,2014-09-17\nE,SPX,2014-10-17\nE,SPXW,2014-10-24\nR,SPX,2014-10-17,0\nR,SPXW,2014-10-24,0\n",
+    LISTED,
+    LISTED_NEXT,
+    QUOTED,
+    QUOTED_NEXT,
+    TICK,
+    "END,25\n",
+];
+
+/// The sample feed whose opening is taken in line 15.
+pub(crate) const OPENING_FEED: [&str; 4] = [
+    DECLARED,
+    LISTED,
+    "T,08:30,SPX   141017P01900000,10.00\nT,08:30,SPX   141017C02000000,50.00\nQ,08:30,SPX   141017P02000000,50.00,50.00\nQ,08:30,SPX   141017C02100000,10.00,10.00\nT,08:30,SPX   141017P01900000,12.00\n",
+    "Z,08:30\nEND,14\n",
+];
+
 /// The certificate of the level at the sample feed's tick.
 pub(crate) const LEVEL: &str =
     "{\"date\":\"2014-10-17\",\"k0\":2000000,\"kind\":\"k0\",\"line\":14,\"pair\":[2000000,0],\"root\":\"SPX\",\"time\":\"08:30\",\"v\":1}\n";
 
 /// What `check` sends for this certificate over the sample feed.
 pub(crate) const LEVEL_OUT: &str = "YES,1,08:30,2000.000\nEND,1,1,0\n";
+
+/// A certificate of the level that names the line before the tick.
+pub(crate) const EARLIER: &str =
+    "{\"date\":\"2014-10-17\",\"k0\":2000000,\"kind\":\"k0\",\"line\":13,\"pair\":[2000000,0],\"root\":\"SPX\",\"time\":\"08:30\",\"v\":1}\n";
+
+/// A quarter of the longest feed line.
+pub(crate) const LONG: &str = "xxxxxxxxxxxxxxxxxxxxxxxxxxxxxxxxxxxxxxxxxxxxxxxxxxxxxxxxxxxxxxxx";
 
 /// One run of `check`: the pieces of the feed and of the certificates, what it sends, how it ends, and
 /// what it then says on standard error.
@@ -103,4 +136,12 @@ pub(crate) fn expect_row(rt: &impl Abort, alloc: Global, most: usize, row: &Row)
     assert_eq!(rt; desk.sent(Slot::Out), row.out.as_bytes(), "{}", row.out);
     assert_eq!(rt; exit_line(alloc, &exit)?.as_slice(), row.said.as_bytes());
     Ok(())
+}
+
+/// The same where one call moves 1, 7, 64 or 1000 bytes at most.
+pub(crate) fn expect_row_by_pieces(rt: &impl Abort, alloc: Global, row: &Row) -> Result<(), Fail> {
+    expect_row(rt, alloc, 1, row)?;
+    expect_row(rt, alloc, 7, row)?;
+    expect_row(rt, alloc, 64, row)?;
+    expect_row(rt, alloc, 1000, row)
 }

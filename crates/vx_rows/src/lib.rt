@@ -1,10 +1,24 @@
 //! Tests that cross crates: whole runs of the commands over devices in memory, with their inputs and
-//! what each must send, answer and say.
+//! what each must send, answer and say. `levels` and `figures` hold what the formats say of certificates of
+//! each kind and of their refusals, `reading` what they say of certificate lines, `feeds` of feed lines and
+//! cut feeds, `replays` the answers to ticks, and `devices` what comes of words of no form and of calls that fail.
 #![tactic(auto)]
 
 #[cfg(test)]
+mod certificates;
+#[cfg(test)]
+mod devices;
+#[cfg(test)]
+mod feeds;
+#[cfg(test)]
+mod figures;
+#[cfg(test)]
 mod fixtures;
 #[cfg(test)]
-mod tests;
+mod levels;
+#[cfg(test)]
+mod reading;
+#[cfg(test)]
+mod replays;
 #[cfg(test)]
 mod watched;

@@ -1,0 +1,178 @@
+//! Whole runs of `replay` over devices in memory.
+
+use crate::fixtures::{FEED, LISTED, QUOTED, TICK, desk_of, joined, run_words};
+use std::alloc::Global;
+use std::process::Abort;
+use std::test::Fail;
+use vx_cli::{Exit, FeedCause};
+use vx_desk::Slot;
+
+/// One run of `replay`: the pieces of the feed, what it sends to the output, how many lines of
+/// certificates, and how it ends.
+struct Replayed {
+    feed: &'static [&'static str],
+    out: &'static str,
+    certificates: usize,
+    exit: Exit,
+}
+
+// The sample feed of two expiries, in pieces: the day with both expiries, their rates, and the series and the
+// quotes of the next term; those of the near term are the other sample feed's.
+const BOTH: &str = "H,1,2014-09-17\nE,SPX,2014-10-17\nE,SPXW,2014-10-24\n";
+
+const RATES: &str = "R,SPX,2014-10-17,0\nR,SPXW,2014-10-24,0\n";
+
+const NEXT_LISTED: &str =
+    "S,SPXW  141024C01900000\nS,SPXW  141024P01900000\nS,SPXW  141024C02000000\nS,SPXW  141024P02000000\nS,SPXW  141024C02100000\nS,SPXW  141024P02100000\n";
+
+const NEXT_QUOTED: &str =
+    "Q,08:30,SPXW  141024P01900000,10.00,10.00\nQ,08:30,SPXW  141024C02000000,50.00,50.00\nQ,08:30,SPXW  141024P02000000,50.00,50.00\nQ,08:30,SPXW  141024C02100000,10.00,10.00\n";
+
+// Feeds whose tick has a figure.
+const FIGURES: [Replayed; 2] = [
+    Replayed {
+        feed: &[
+            BOTH,
+            RATES,
+            LISTED,
+            NEXT_LISTED,
+            QUOTED,
+            NEXT_QUOTED,
+            TICK,
+            "END,25\n",
+        ],
+        out: "FIG,08:30,30,20.66,20.657919,20.657920\nEND,1,1,0,0\n",
+        certificates: 1,
+        exit: Exit::Done,
+    },
+    Replayed {
+        feed: &[
+            BOTH,
+            "R,SPX,2014-10-17,25\nR,SPXW,2014-10-24,25\n",
+            LISTED,
+            NEXT_LISTED,
+            QUOTED,
+            NEXT_QUOTED,
+            TICK,
+            "END,25\n",
+        ],
+        out: "FIG,08:30,30,20.87,20.871252,20.871253\nEND,1,1,0,0\n",
+        certificates: 1,
+        exit: Exit::Done,
+    },
+];
+
+// Feeds whose tick is refused, by the first refusal that holds.
+const REFUSALS: [Replayed; 3] = [
+    Replayed {
+        feed: &FEED,
+        out: "REF,08:30,30,no-term,next\nEND,1,0,0,1\n",
+        certificates: 0,
+        exit: Exit::Done,
+    },
+    Replayed {
+        feed: &[
+            BOTH,
+            RATES,
+            LISTED,
+            NEXT_LISTED,
+            QUOTED,
+            NEXT_QUOTED,
+            "Q,08:30,SPX   141017C02000000,51.00,50.00\n",
+            TICK,
+            "END,26\n",
+        ],
+        out: "REF,08:30,30,no-pair,near\nEND,1,0,0,1\n",
+        certificates: 0,
+        exit: Exit::Done,
+    },
+    Replayed {
+        feed: &[
+            BOTH,
+            RATES,
+            LISTED,
+            NEXT_LISTED,
+            QUOTED,
+            NEXT_QUOTED,
+            "Q,08:30,SPX   141017C01900000,110.00,110.00\nQ,08:30,SPX   141017C02000000,51.00,50.00\n",
+            TICK,
+            "END,27\n",
+        ],
+        out: "REF,08:30,30,no-money,near\nEND,1,0,0,1\n",
+        certificates: 0,
+        exit: Exit::Done,
+    },
+];
+
+// Feeds that end early, and the shortest one that does not.
+const CUT: [Replayed; 4] = [
+    Replayed {
+        feed: &["H,1,2014-09-17\n", "END,0\n"],
+        out: "END,0,0,0,0\n",
+        certificates: 0,
+        exit: Exit::Done,
+    },
+    Replayed {
+        feed: &["H,1,2014-09-17\n"],
+        out: "",
+        certificates: 0,
+        exit: Exit::BadFeed {
+            line: 2,
+            cause: FeedCause::MissingEnd,
+        },
+    },
+    Replayed {
+        feed: &[],
+        out: "",
+        certificates: 0,
+        exit: Exit::BadFeed {
+            line: 1,
+            cause: FeedCause::MissingEnd,
+        },
+    },
+    Replayed {
+        feed: &[BOTH, RATES, LISTED, NEXT_LISTED, QUOTED, NEXT_QUOTED, TICK],
+        out: "FIG,08:30,30,20.66,20.657919,20.657920\n",
+        certificates: 1,
+        exit: Exit::BadFeed {
+            line: 27,
+            cause: FeedCause::MissingEnd,
+        },
+    },
+];
+
+// Asserts what a run of `replay` sends and how it ends.
+fn expect_replayed(rt: &impl Abort, alloc: Global, row: &Replayed) -> Result<(), Fail> {
+    let feed = joined(alloc, row.feed)?;
+    let mut desk = desk_of(alloc, 100_000, 1000, &[], &feed, b"")?;
+    let exit = run_words(alloc, &["replay", "feed", "certificates"], &mut desk)?;
+    assert_eq!(rt; exit, row.exit, "where it sends {}", row.out);
+    assert_eq!(rt; desk.sent(Slot::Out), row.out.as_bytes(), "{}", row.out);
+    let certificates = str::from_utf8(desk.sent(Slot::Certs))?;
+    assert_eq!(rt; certificates.lines().count(), row.certificates);
+    Ok(())
+}
+
+#[test]
+fn ticks_get_figures(rt: HostRuntime) -> Result<(), Fail> {
+    for row in FIGURES.iter() {
+        expect_replayed(&rt, rt.alloc(), row)?;
+    }
+    Ok(())
+}
+
+#[test]
+fn ticks_get_first_refusals(rt: HostRuntime) -> Result<(), Fail> {
+    for row in REFUSALS.iter() {
+        expect_replayed(&rt, rt.alloc(), row)?;
+    }
+    Ok(())
+}
+
+#[test]
+fn ticks_before_a_bad_line_are_answered(rt: HostRuntime) -> Result<(), Fail> {
+    for row in CUT.iter() {
+        expect_replayed(&rt, rt.alloc(), row)?;
+    }
+    Ok(())
+}
