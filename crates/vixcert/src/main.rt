@@ -2,13 +2,13 @@
 #![tactic(auto)]
 
 ghost use Rattle.std.specs.Prelude.{IfErr};
-ghost use Rattle.vx_cli.specs.Exits.{IsWithoutNoMemory};
+ghost use Rattle.vx_drivers.specs.Exits.{IsWithoutNoMemory};
 
 use std::alloc::Global;
 use std::io::ErrorKind;
 use std::process::ExitCode;
-use std::rt::Env;
-use std::{env, str};
+use std::rt::{Env, Files};
+use std::{env, fs, io, str};
 use vx_cli::{Exit, exit_line, run};
 use vx_desk::RealDesk;
 
@@ -35,8 +35,22 @@ fn report(rt: &impl Eprint, alloc: Global, exit: &Exit) -> ExitCode
     ExitCode::from(exit.status())
 }
 
+/// What holds nothing and can always be opened.
+const NULL_DEVICE: &str = "/dev/null";
+
+/// Opens the null device once for each standard stream. Where the caller closed a stream, the next file that is
+/// opened takes its place; so these do, and no file of the run gets what goes to a stream.
+fn hold_standard_places<R: Files>(rt: &R) -> [io::Result<R::File>; 3] {
+    [
+        fs::open(rt, NULL_DEVICE),
+        fs::open(rt, NULL_DEVICE),
+        fs::open(rt, NULL_DEVICE),
+    ]
+}
+
 fn main(rt: HostRuntime) -> ExitCode {
     let alloc = rt.alloc();
+    let _held = hold_standard_places(&rt);
     match read_words(&rt, alloc) {
         Ok(words) => {
             let mut desk = RealDesk::new(rt);
