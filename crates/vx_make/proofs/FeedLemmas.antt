@@ -96,7 +96,7 @@ text_five a b c d e first vs ws xs ys last ha hb hc hd he =
     ∙ sym (texts-append (first ∷ (vs ++ ws ++ xs ++ ys)) (last ∷ []))
 
 -- parts of one length
-pub length-for_each : (k n : ℕ) (part : ℕ → List Event) → ((i : ℕ) → length (part i) ≡ k) → length (for_each n part) ≡ k * n
+pub length-for_each : {A : Type 0} → (k n : ℕ) (part : ℕ → List A) → ((i : ℕ) → length (part i) ≡ k) → length (for_each n part) ≡ k * n
 unfolding for_each
 length-for_each k zero part each = omega arith
 length-for_each k (suc n) part each =
@@ -106,7 +106,8 @@ length-for_each k (suc n) part each =
 length-quotes : (time centre : ℕ) (x : Expiry) (state : ℕ) → length (expiry_quotes time centre x state) ≡ 400
 length-quotes time centre x state = length-for_each 2 200 (λ i. strike_quotes time centre x i (state_after (4 * i) state)) (λ i. refl)
 
-length-tick : (time state : ℕ) → length (tick_events time state) ≡ 801
+-- how many events a tick has
+pub length-tick : (time state : ℕ) → length (tick_events time state) ≡ 801
 unfolding tick_events
 length-tick time state =
     let first = next_state state in

@@ -1,1 +1,4 @@
 pub mod FeedLemmas
+mod WrittenEvents
+mod SampleEvents
+mod SampleFeeds

@@ -1,3 +1,5 @@
 pub mod Drawing
 pub mod Quotes
 pub mod Feed
+pub mod ReadBack
+pub mod Lawful
