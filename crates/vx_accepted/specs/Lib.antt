@@ -1,3 +1,4 @@
+-- What the calculator certifies is accepted, and can be written.
 pub mod Certified
 pub mod Statable
 pub mod Picked

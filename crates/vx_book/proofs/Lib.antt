@@ -1,3 +1,4 @@
+-- Lemmas: each event leaves a book that stands for one event more.
 pub mod Places
 pub mod Rows
 pub mod Lookups

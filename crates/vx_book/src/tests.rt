@@ -1,4 +1,4 @@
-// A day of events, taken up line by line.
+//! A day of events, taken up line by line.
 ghost use Rattle.std.specs.Prelude.{List, IfOk, OnOk};
 ghost use Rattle.vx_feed.specs.declared.events.Event.{Event};
 ghost use Rattle.vx_feed.specs.Noted as noted;

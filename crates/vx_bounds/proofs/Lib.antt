@@ -1,3 +1,4 @@
+-- Lemmas on the rounded terms of the exponential, on roots, and on the decision of a figure.
 pub mod TermLemmas
 pub mod EndLemmas
 pub mod Loops

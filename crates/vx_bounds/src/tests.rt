@@ -1,3 +1,5 @@
+//! The exponential, the root and the decision at numbers worked out by hand.
+
 use crate::{Decision, decide, exp_bounds, exp_signed, root_ends, round_cents};
 use vx_interval::Iv;
 

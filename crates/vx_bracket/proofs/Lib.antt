@@ -1,3 +1,4 @@
+-- Lemmas: the sums with cleared denominators are the fractions of the bracket.
 pub mod Cleared
 pub mod Terms
 pub mod Series

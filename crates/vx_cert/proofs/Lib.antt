@@ -1,3 +1,4 @@
+-- Lemmas on what a certificate reads and writes.
 pub mod Values
 pub mod Reading
 pub mod Faults

@@ -1,3 +1,4 @@
+-- Lemmas: what the checker keeps follows each event, and its answers are the defined ones.
 pub mod Rising
 pub mod TableSeries
 pub mod TableTrades

@@ -1,3 +1,4 @@
+-- What the checker keeps of a feed, and what it answers to a certificate.
 pub mod Rising
 pub mod Kept
 pub mod Trades

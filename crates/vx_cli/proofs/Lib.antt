@@ -1,3 +1,4 @@
+-- Lemmas on the words of the commands and on what they write.
 mod OperandLemmas
 mod RequestLemmas
 -- what is written is one

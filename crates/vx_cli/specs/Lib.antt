@@ -1,3 +1,4 @@
+-- The words of the commands, what each writes, and the laws of its text.
 pub mod CheckLaws
 pub mod CheckRuns
 pub mod ExitText

@@ -1,3 +1,5 @@
+//! The line for standard error that says why a run ended.
+
 ghost use Rattle.std.specs.Prelude.{◌≡◌, ◌++◌, IfOk, OnOk};
 ghost use Rattle.vx_drivers.specs.Exits.{IsWithoutNoMemory};
 ghost use Rattle.vx_cli.specs.ExitText.{bad_certs_text, bad_feed_text, bad_positions_text, complaint, exit_text, failed_call_text, feed_fault_word, feed_word, field_word, line_word, place, position_fault_word, position_word, slot_word};

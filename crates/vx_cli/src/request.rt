@@ -1,3 +1,5 @@
+//! What a command line asks for: each command with its operands.
+
 ghost use Rattle.std.specs.Prelude.{◌≡◌, ◌<◌, ◌≤◌, true, IfOk, IfSome, map, option_and_then, option_map, string_bytes};
 ghost use Rattle.std.specs.List.{list_all};
 ghost use Rattle.vx_cli.specs.Requests.{IsInRange, asked};

@@ -1,3 +1,4 @@
+-- Lemmas on the order of terms, and on days and their texts.
 pub mod TermOrder
 pub mod Best
 pub mod DigitFacts

@@ -1,3 +1,4 @@
+-- Days, minutes and terms, and the texts of days, times and roots.
 pub mod Digits
 pub mod Day
 pub mod Clock

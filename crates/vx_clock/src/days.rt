@@ -1,3 +1,5 @@
+//! Days of the calendar: their numbers, and their texts read and written.
+
 ghost use Rattle.std.specs.Prelude.{◌≡◌, ◌≤◌, IfOk};
 ghost use Rattle.jiff_core.specs.Date.{epoch_day};
 ghost use Rattle.vx_clock.specs.Day.{IsDayInRange, day_of_date, day_of_text};

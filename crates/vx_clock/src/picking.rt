@@ -1,3 +1,5 @@
+//! Which of the declared expiries are the near and the next term of a day.
+
 ghost use Rattle.std.specs.Prelude.{◌≡◌, ◌^◌, unsigned_abs, ◌≤◌, ◌+◌, ◌↔◌, ◌<◌, length, slice_get, slice_index_or, IsTrue, IfOk, IfSome, IfNone, IsSomeAnd, MatchBool, MatchOption, All, Any};
 ghost use Rattle.vx_clock.specs.Minutes.{days_until};
 ghost use Rattle.vx_clock.specs.Terms.{IsInNearWindow, IsInNextWindow, IsTakenBeforeAsNear, IsTakenBeforeAsNext, IsNearTerm, IsNextTerm};

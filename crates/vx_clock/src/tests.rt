@@ -1,3 +1,5 @@
+//! Days, minutes and terms of the calendar, and what is no day.
+
 ghost use Rattle.std.specs.Prelude.{◌≡◌};
 
 use super::*;

@@ -1,3 +1,4 @@
+-- Lemmas on desks: what is told of them, read from them and sent to them.
 pub mod SendingLemmas
 pub mod ReaderLemmas
 pub mod NextLemmas

@@ -1,3 +1,4 @@
+-- Slots, what a desk tells of them, and the lines that are cut from what they hold.
 pub mod Slots
 pub mod Told
 pub mod Sending

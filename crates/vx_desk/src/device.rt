@@ -1,3 +1,5 @@
+//! What a desk of devices does: its slots, and the calls that open, read and write them.
+
 ghost use Rattle.std.specs.Prelude.{◌≡◌, List, ℕ, Option, Bool, false, IsTrue};
 ghost use Rattle.vx_desk.specs.Slots.{IsReading, IsWriting};
 ghost use Rattle.vx_desk.specs.Told.{Told, Opens, Reads, Writes, ChangesOnly, OutIsOpen};

@@ -1,3 +1,5 @@
+//! Counts of the calls that failed at a slot.
+
 ghost use Rattle.std.specs.Prelude.{◌≡◌};
 ghost use Rattle.vx_desk.specs.Told.{Rose};
 ghost use Rattle.vx_desk.specs.Failures.{no_failures, raised};

@@ -1,3 +1,5 @@
+//! One line of a slot, and why there is no next one.
+
 use thiserror::Error;
 
 /// The byte that ends each line.

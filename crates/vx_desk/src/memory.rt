@@ -1,3 +1,5 @@
+//! A desk over files in memory, at which chosen calls fail.
+
 ghost use Rattle.std.specs.Prelude.{◌≡◌, ◌≢◌, ℕ, Option, string_bytes, ◌≤◌, ◌<◌, ◌+◌, ◌-◌, ◌⊎◌, ◌↔◌, [], min, length, vec_capacity, false, Contains, IsTrue, IsErr, IsNone, IfOk, OnOk, OnErr, is_ok, List, MatchOption, Some, None};
 ghost use Rattle.vx_desk.specs.declared.memory.MemFile.{MemFile};
 ghost use Rattle.vx_desk.specs.Slots.{IsReading, IsWriting};

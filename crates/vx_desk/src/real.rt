@@ -1,3 +1,5 @@
+//! A desk over real files and the standard output.
+
 ghost use Rattle.std.specs.Prelude.{◌≡◌, ◌≤◌, ℕ, List, true, false, length, is_some, None, IfOk};
 ghost use Rattle.vx_desk.specs.Told.{Opens, Reads, Writes};
 ghost use Rattle.vx_desk.specs.Untold.{fresh_untold, untold};

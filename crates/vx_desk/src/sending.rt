@@ -1,3 +1,5 @@
+//! Sends all bytes to a slot, however few a write takes.
+
 ghost use Rattle.std.specs.Prelude.{◌≡◌, IsTrue};
 ghost use Rattle.vx_desk.specs.Slots.{IsWriting};
 ghost use Rattle.vx_desk.specs.Told.{ChangesOnly};

@@ -1,3 +1,5 @@
+//! Lines and pieces over desks in memory, with reads and writes that are short or fail.
+
 ghost use Rattle.std.specs.Prelude.{◌≡◌, ◌≤◌, IsTrue};
 ghost use Rattle.vx_desk.specs.Slots.{IsReading};
 

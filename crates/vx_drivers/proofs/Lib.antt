@@ -1,3 +1,4 @@
+-- Lemmas on the steps of a run, on its exits, and that it has one text.
 mod AlongLemmas
 mod CertificateLemmas
 pub mod ExitLemmas

@@ -1,3 +1,4 @@
+-- The ways of a run: its steps, what it sends, and the exit that it ends in.
 pub mod Along
 pub mod Answers
 pub mod CertificateExits

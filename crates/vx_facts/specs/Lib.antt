@@ -1,1 +1,2 @@
+-- What a lawful feed shows.
 pub mod Shown

@@ -1,3 +1,4 @@
+-- Lemmas on lawful feeds: their order, their lines, and what they show.
 pub mod NextEvent
 pub mod ReadBack
 pub mod SameLemmas

@@ -1,3 +1,4 @@
+-- What a feed says, which line may come next, and how lines are read and written.
 pub mod Same
 pub mod Said
 pub mod Standing

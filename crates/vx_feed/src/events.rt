@@ -1,3 +1,5 @@
+//! The events of a feed: what each of its lines says.
+
 use vx_clock::{DayNo, Expiry};
 use vx_symbol::Symbol;
 

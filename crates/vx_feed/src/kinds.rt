@@ -1,3 +1,5 @@
+//! The kinds of lines of a feed, by the first field of a line.
+
 ghost use Rattle.std.specs.Prelude.{◌≡◌};
 ghost use Rattle.vx_feed.specs.Form.{field_count, kind_of_text};
 

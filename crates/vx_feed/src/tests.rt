@@ -1,3 +1,5 @@
+//! Sample feeds, lines at the limits, and a line for each fault.
+
 ghost use Rattle.std.specs.Prelude.{OnOk, IfOk};
 ghost use Rattle.vx_feed.specs.Noted.{StandsForSome};
 

@@ -1,3 +1,5 @@
+//! One line of each kind, as it is written.
+
 use crate::{Event, write_event};
 use std::test::Fail;
 use vx_clock::{DayNo, Expiry, Root};

@@ -1,2 +1,3 @@
+-- The fields of a line, and which lines are not split.
 pub mod Lines
 pub mod Refusal

@@ -1,3 +1,5 @@
+//! Lines that are split at their commas, and lines that are not plain.
+
 use crate::{FieldTable, LineBlock, Unsplit, is_plain_line, why_unsplit};
 use std::test::Fail;
 

@@ -1,3 +1,4 @@
+-- Proofs of the laws of the formula, and lemmas about its definitions.
 pub mod Lists
 pub mod Ends
 pub mod PairLemmas

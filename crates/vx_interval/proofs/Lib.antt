@@ -1,3 +1,4 @@
+-- Lemmas on the ends of intervals: directed rounding, enclosure and width.
 pub mod EndsLemmas
 pub mod RoundingLemmas
 pub mod Enclosures

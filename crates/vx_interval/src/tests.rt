@@ -1,3 +1,5 @@
+//! Each operation on intervals, at each scale.
+
 use crate::Iv;
 
 // The low and the high end, in units.

@@ -1,3 +1,4 @@
+-- Proofs of the laws that join several crates, and of the worked days.
 pub mod TermDayProofs
 pub mod FeedDayProofs
 pub mod OrderExamples

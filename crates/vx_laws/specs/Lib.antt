@@ -1,3 +1,4 @@
+-- Laws that join the definitions of several crates, and worked days.
 pub mod TermDays
 pub mod FeedDays
 pub mod OrderExamples

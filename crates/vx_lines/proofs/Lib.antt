@@ -1,3 +1,4 @@
+-- Lemmas on the lines of a text.
 pub mod LineLemmas
 pub mod MostLemmas
 pub mod CutLemmas

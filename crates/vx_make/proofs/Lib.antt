@@ -1,3 +1,4 @@
+-- Lemmas on the events of a sample feed.
 pub mod FeedLemmas
 mod WrittenEvents
 mod SampleEvents

@@ -1,3 +1,4 @@
+-- The sample feed of a number: what is drawn, the quotes, and the events.
 pub mod Drawing
 pub mod Quotes
 pub mod Feed

@@ -1,3 +1,5 @@
+//! The small generator that numbers are drawn from.
+
 ghost use Rattle.std.specs.Prelude.{◌≡◌, ◌<◌, ◌≤◌};
 ghost use Rattle.vx_make.specs.Drawing.{next_state, value_below};
 

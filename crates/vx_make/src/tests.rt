@@ -1,3 +1,5 @@
+//! The first and the last lines of a sample feed.
+
 use super::*;
 use std::test::Fail;
 

@@ -1,3 +1,4 @@
+-- Lemmas on decimals and their texts, on squares, quotients and fractions.
 pub mod Differences
 pub mod Texts
 pub mod Decimals

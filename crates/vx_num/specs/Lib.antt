@@ -1,3 +1,4 @@
+-- Decimals, fractions, quotients and squares, and the texts of numbers.
 pub mod Decimal
 pub mod Fraction
 pub mod Quotient

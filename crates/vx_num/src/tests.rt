@@ -1,3 +1,5 @@
+//! Quotients, texts of numbers and counted steps, at worked values.
+
 ghost use Rattle.std.specs.Prelude.{◌≡◌, ◌<◌};
 
 use crate::{

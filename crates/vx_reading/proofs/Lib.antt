@@ -1,3 +1,4 @@
+-- Lemmas on the lines that are read ahead and on the events taken from them.
 mod AheadLemmas
 pub mod FailureLemmas
 pub mod FeedLemmas

@@ -1,3 +1,4 @@
+-- The answers to the ticks of a feed, their laws, and what the replay keeps.
 pub mod Figures
 pub mod Joined
 pub mod Joinable

@@ -1,4 +1,4 @@
-// Days of events, taken up line by line, and what their last ticks are answered.
+//! Days of events, taken up line by line, and what their last ticks are answered.
 ghost use Rattle.std.specs.Prelude.{List, OnOk};
 ghost use Rattle.vx_feed.specs.declared.events.Event.{Event};
 ghost use Rattle.vx_feed.specs.Noted as noted;

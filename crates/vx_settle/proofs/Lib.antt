@@ -1,2 +1,3 @@
+-- Proofs of the laws of amounts.
 pub mod Amounts
 pub mod Netting

@@ -1,3 +1,5 @@
+//! A position in volatility futures, and the dollars that a point of it is worth.
+
 ghost use Rattle.std.specs.Prelude.{◌≡◌};
 ghost use Rattle.vx_settle.specs.Position.{multiplier_of};
 

@@ -1,3 +1,5 @@
+//! Positions that are read and settled, and lines that are none.
+
 use crate::{Contract, Position, PositionFault, amount, read_position};
 use std::test::Fail;
 

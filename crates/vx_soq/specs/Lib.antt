@@ -1,3 +1,4 @@
+-- The answer to the opening, and its laws.
 pub mod Figures
 pub mod Openings
 pub mod TermPlace

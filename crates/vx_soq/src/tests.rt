@@ -1,4 +1,4 @@
-// The opening figure of small feeds.
+//! The opening figure of small feeds.
 ghost use Rattle.std.specs.Prelude.{List, IfOk, OnOk};
 ghost use Rattle.vx_feed.specs.declared.events.Event.{Event};
 ghost use Rattle.vx_feed.specs.Noted as noted;

@@ -1,3 +1,4 @@
+-- Lemmas towards the theorem that what is accepted means what it says.
 pub mod ExponentialLemmas
 pub mod TermLemmas
 pub mod FigureLemmas

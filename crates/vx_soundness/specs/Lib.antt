@@ -1,2 +1,3 @@
+-- The theorem that what is accepted means what it says.
 pub mod Enclosing
 pub mod Laws

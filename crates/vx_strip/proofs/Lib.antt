@@ -1,2 +1,3 @@
+-- Lemmas on widths and on the two sides of a strip.
 pub mod Widths
 pub mod Sides

@@ -1,2 +1,3 @@
+-- The entries of a strip, and why there is none.
 pub mod Entries
 pub mod Refusals

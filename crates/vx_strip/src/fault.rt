@@ -1,3 +1,5 @@
+//! Why a term has no strip at its level.
+
 use thiserror::Error;
 
 /// Why a term has no strip at its level. Of several causes the first that holds, in this order, is

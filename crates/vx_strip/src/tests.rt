@@ -1,3 +1,5 @@
+//! Strips at worked rows, and each cause for which there is none.
+
 ghost use Rattle.std.specs.Prelude.{◌<◌, length};
 ghost use Rattle.vx_symbol.specs.Rows.{AreLawfulRows};
 

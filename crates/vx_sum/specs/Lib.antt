@@ -1,3 +1,4 @@
+-- The sum of a strip, what of it is kept, and its laws.
 pub mod Sums
 pub mod Totals
 -- sums that are kept, and which of their rows are used again

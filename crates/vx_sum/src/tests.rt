@@ -1,3 +1,5 @@
+//! Sums of strips, from nothing and from what was kept.
+
 ghost use Rattle.std.specs.Prelude.{◌≡◌, ◌+◌, ◌^◌, ◌<◌, ◌≤◌, length, All, AllPairs, IfOk};
 ghost use Rattle.vx_strip.specs.Entries.{IsRowInRange};
 

@@ -1,3 +1,5 @@
+//! What a term shows: prices, listed strikes and the rate.
+
 use vx_clock::Expiry;
 
 /// The price of one series.

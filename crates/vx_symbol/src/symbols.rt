@@ -1,3 +1,5 @@
+//! Symbols of option series, read and written.
+
 ghost use Rattle.std.specs.Prelude.{◌≡◌, ◌≤◌, length, slice_index, IfOk, IfSome};
 ghost use Rattle.vx_clock.specs.Day.{IsDayInRange};
 ghost use Rattle.vx_symbol.specs.Symbol.{IsSymbolInRange, IsStrikeInRange, root_text, side_byte, root_of, date_of, side_of, strike_of, symbol_of_text};

@@ -1,3 +1,5 @@
+//! Symbols that are read and written, and bytes that are none.
+
 use super::*;
 use vx_clock::{DayNo, Root};
 

@@ -1,3 +1,4 @@
+-- One term's numbers on the way to its variance, what they mean, and their laws.
 pub mod Exponential
 pub mod Variance
 pub mod Index

@@ -1,3 +1,5 @@
+//! One sample term: its variance, what is kept of it, and its refusals.
+
 ghost use Rattle.std.specs.Prelude.{◌≡◌, ◌<◌, IfSome};
 ghost use Rattle.vx_symbol.specs.Rows.{AreLawfulRows, IsRateInRange};
 
