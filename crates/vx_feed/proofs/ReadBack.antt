@@ -10,7 +10,7 @@ use Rattle.std.proofs.lemmas.List.Elements.{All-nil, All-cons}
 use Rattle.std.proofs.lemmas.List.Splits.{slice_split_none, slice_split_at}
 use Rattle.vx_num.specs.Decimal.{decimal_of, is_digit}
 use Rattle.vx_num.specs.Written.{natural_text, last_digits, decimal_text}
-use Rattle.vx_num.proofs.ReadBack.{natural_text_all, natural_text_some, last_digits_all, read_back_decimal, decimal_text_whole, decimal_text_parts}
+use Rattle.vx_num.proofs.ReadBack.{natural_text_all, last_digits_all, read_back_decimal, read_back_signed, decimal_text_whole, decimal_text_parts}
 use Rattle.vx_clock.specs.declared.days.DayNo.{DayNo}
 use Rattle.vx_clock.specs.declared.terms.Root.{Root}
 use Rattle.vx_clock.specs.declared.terms.Root.TheVariants.{Spx, Spxw}
@@ -210,22 +210,8 @@ time_back time most =
     let same : 60 * (time / 60) + time % 60 ≡ time = omega arith in
     two_digits_back (time / 60) (time % 60) (omega arith) (omega arith) ∙ ap Some same
 
-first_is_no_minus : (xs rest : List ℕ) → 0 < length xs → list_all is_digit xs ≡ true → (slice_index (xs ++ rest) 0 == 45) ≡ false
-first_is_no_minus [] rest s h = absurd (omega arith)
-first_is_no_minus (x ∷ xs) rest s h = let digit = both_left (is_digit x) (list_all is_digit xs) h in grind (arith, nat_tests)
-
-rate_back_by : (text : List ℕ) (n : ℕ) → (slice_index text 0 == 45) ≡ false → decimal_of text 6 25000000 ≡ Ok n → rate_of_text text ≡ Some (pos n)
-rate_back_by text n sign value = rw (sign, value) refl
-
 rate_back : (rate : ℤ) → IsRateInRange rate → rate_of_text (rate_text rate) ≡ Some rate
-rate_back (pos n) is =
-    let parts = decimal_text_parts n 6 (omega arith) in
-    let digits = natural_text (n / 10 ^ 6) in
-    let sign : (slice_index (decimal_text n 6) 0 == 45) ≡ false = rw parts (first_is_no_minus digits (46 ∷ last_digits 6 n) (natural_text_some (n / 10 ^ 6)) (natural_text_all (n / 10 ^ 6))) in
-    rate_back_by (decimal_text n 6) n sign (read_back_decimal n 6 25000000 (omega (arith, ints, is.1)))
-rate_back (negsuc n) is =
-    let value = read_back_decimal (suc n) 6 5000000 (omega (arith, ints, is.0)) in
-    rw value refl
+rate_back rate is = read_back_signed rate 6 5000000 25000000 is.0 is.1
 
 -- ---- the event of a line
 

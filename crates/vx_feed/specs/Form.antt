@@ -1,9 +1,9 @@
 -- What a line says by itself (the forms are this project's own). A line's fields are the pieces
 -- between its commas, counted from 1; the first names the kind of line.
-use Rattle.std.specs.Prelude.{ℕ, ◌+◌, ◌-◌, ◌*◌, Bool, true, false, ◌&&◌, ◌==◌, nat_le, ℤ, pos, neg_ℤ, unsigned_abs, List, [], ◌∷◌, length, take, drop, codes, bytes_eq, slice_index, slice_index_or, slice_range, Option, Some, None, Result, Ok, Err, if◌then◌else◌}
+use Rattle.std.specs.Prelude.{ℕ, ◌+◌, ◌-◌, ◌*◌, Bool, true, false, ◌&&◌, ◌==◌, nat_le, ℤ, unsigned_abs, List, [], ◌∷◌, length, take, drop, codes, bytes_eq, slice_index, slice_index_or, slice_range, Option, Some, None, Result, Ok, Err, if◌then◌else◌}
 use Rattle.std.specs.Option.{option_map}
 use Rattle.std.specs.Result.{result_ok}
-use Rattle.vx_num.specs.Decimal.{decimal_of}
+use Rattle.vx_num.specs.Decimal.{decimal_of, signed_decimal_of}
 use Rattle.vx_clock.specs.Clock.{time_of_text}
 use Rattle.vx_clock.specs.Day.{day_of_text}
 use Rattle.vx_clock.specs.RootText.{root_of_text}
@@ -68,12 +68,9 @@ abbrev pub date_of_text : List ℕ → Option DayNo
 date_of_text text = result_ok (day_of_text text)
 
 -- a rate in percent per year of at most 6 places, in 10^-8 per year: from 0 to 25, or after a `-` from
--- 0 to 5; 45 is the byte of `-`
+-- 0 to 5
 abbrev pub rate_of_text : List ℕ → Option ℤ
-rate_of_text text =
-    if slice_index text 0 == 45
-    then option_map (λ units. neg_ℤ (pos units)) (result_ok (decimal_of (drop 1 text) 6 (unsigned_abs RATE_MIN)))
-    else option_map pos (result_ok (decimal_of text 6 (unsigned_abs RATE_MAX)))
+rate_of_text text = signed_decimal_of text 6 (unsigned_abs RATE_MIN) (unsigned_abs RATE_MAX)
 
 -- a price in points of at most 2 places and at most 50,000, in cents
 abbrev pub price_of_text : List ℕ → Option ℕ

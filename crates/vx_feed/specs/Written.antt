@@ -1,7 +1,7 @@
 -- How an event is written as a line of a feed (the form is this project's own): its kind, its values, each
 -- behind a comma, and LF.
-use Rattle.std.specs.Prelude.{ℕ, suc, ℤ, pos, negsuc, List, [], ◌∷◌, ◌++◌, codes, flat_map}
-use Rattle.vx_num.specs.Written.{decimal_text}
+use Rattle.std.specs.Prelude.{ℕ, ℤ, List, [], ◌∷◌, ◌++◌, codes, flat_map}
+use Rattle.vx_num.specs.Written.{decimal_text, signed_text}
 use Rattle.vx_clock.specs.Clock.{clock_text}
 use Rattle.vx_clock.specs.DayText.{day_text}
 use Rattle.vx_clock.specs.RootText.{bare_root_text}
@@ -18,11 +18,9 @@ use Rattle.vx_feed.specs.Form.{kind_text}
 abbrev pub version_text : List ℕ
 version_text = codes "1"
 
--- a rate, in 10^-8 per year, as percent per year with six places, behind a `-` where it is below zero;
--- 45 is the byte of `-`
+-- a rate, in 10^-8 per year, as percent per year with six places, behind a `-` where it is below zero
 abbrev pub rate_text : ℤ → List ℕ
-rate_text (pos units) = decimal_text units 6
-rate_text (negsuc n) = 45 ∷ decimal_text (suc n) 6
+rate_text rate = signed_text rate 6
 
 -- a price, in cents, as points with two places
 abbrev pub price_text : ℕ → List ℕ

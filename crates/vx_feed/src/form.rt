@@ -15,7 +15,7 @@ use crate::limits::LINES_MAX;
 use vx_clock::limits::{RATE_MAX, RATE_MIN};
 use vx_clock::{DayNo, Expiry, Root, read_clock, read_day};
 use vx_fields::Fields;
-use vx_num::read_decimal;
+use vx_num::{read_decimal, read_signed};
 use vx_symbol::limits::PRICE_MAX;
 use vx_symbol::{Symbol, read_symbol};
 
@@ -44,12 +44,12 @@ fn read_rate(text: &[u8]) -> Option<i32>
     ensures value { result ≡ spec.rate_of_text text.now }
     ensures in_range { IfSome result IsRateInRange }
 {
-    if !text.is_empty() && text[0] == b'-' {
-        let most = u64::from(RATE_MIN.unsigned_abs());
-        let units = read_decimal(&text[1..], RATE_PLACES, most).ok()?;
-        return Some(-(units as i32));
-    }
-    let units = read_decimal(text, RATE_PLACES, RATE_MAX as u64).ok()?;
+    let units = read_signed(
+        text,
+        RATE_PLACES,
+        RATE_MIN.unsigned_abs(),
+        RATE_MAX.unsigned_abs(),
+    )?;
     Some(units as i32)
 }
 

@@ -19,7 +19,7 @@ use crate::events::Event;
 use crate::form::{PRICE_PLACES, RATE_PLACES};
 use std::alloc::Global;
 use vx_clock::{DayNo, Expiry, Root, write_clock, write_day};
-use vx_num::{NoMemory, write_decimal};
+use vx_num::{NoMemory, write_decimal, write_signed};
 use vx_symbol::{Symbol, write_symbol};
 
 #[tactic(auto, using(crate::proofs::ReadBack::line_back), unfolding(crate::specs::Written::event_line))]
@@ -78,15 +78,8 @@ fn put_price(alloc: Global, line: &mut Vec<u8>, cents: u32) -> Result<(), NoMemo
 fn put_rate(alloc: Global, line: &mut Vec<u8>, rate: i32) -> Result<(), NoMemory>
     ensures { OnOk result (line.new.items ≡ line.old.items ++ comma ∷ rate_text rate) }
 {
-    put(
-        line,
-        if rate < 0 {
-            b",-".as_slice()
-        } else {
-            b",".as_slice()
-        },
-    )?;
-    write_decimal(alloc, line, u128::from(rate.unsigned_abs()), RATE_PLACES)
+    put(line, b",")?;
+    write_signed(alloc, line, i128::from(rate), RATE_PLACES)
 }
 
 fn put_expiry(line: &mut Vec<u8>, expiry: Expiry) -> Result<(), NoMemory>

@@ -1,6 +1,8 @@
 -- Texts of numbers, as lists of bytes. This project's own forms.
-use Rattle.std.specs.Prelude.{ℕ, ◌+◌, ◌-◌, ◌*◌, ◌^◌, ℤ, pos, neg_ℤ, List, [], ◌∷◌, length, filter, Bool, true, false, not, ◌&&◌, ◌==◌, nat_le, nat_lt, if◌then◌else◌, Result, Ok, Err}
+use Rattle.std.specs.Prelude.{ℕ, ◌+◌, ◌-◌, ◌*◌, ◌^◌, ℤ, pos, neg_ℤ, List, [], ◌∷◌, length, filter, drop, slice_index, Bool, true, false, not, ◌&&◌, ◌==◌, nat_le, nat_lt, if◌then◌else◌, Option, Result, Ok, Err}
 use Rattle.std.specs.List.{list_all}
+use Rattle.std.specs.Option.{option_map}
+use Rattle.std.specs.Result.{result_ok}
 use Rattle.vx_num.specs.declared.fault.DecimalFault.{DecimalFault}
 use Rattle.vx_num.specs.declared.fault.DecimalFault.TheVariants.{Empty, NotDigit, Places, TooLarge}
 
@@ -51,6 +53,13 @@ decimal_of (b ∷ bs) places max =
     else if nat_lt places (places_of (b ∷ bs)) then Err Places
     else if nat_lt max (scaled_value (b ∷ bs) places) then Err TooLarge
     else Ok (scaled_value (b ∷ bs) places)
+
+-- what reading a decimal with a sign answers: the value times 10 ^ places, at most `above`, or behind a minus sign at most `below`
+-- in absolute value; None where the text is no such decimal
+abbrev pub signed_decimal_of : List ℕ → ℕ → ℕ → ℕ → Option ℤ
+signed_decimal_of text places below above =
+    if is_minus (slice_index text 0) then option_map (λ n. neg_ℤ (pos n)) (result_ok (decimal_of (drop 1 text) places below))
+    else option_map pos (result_ok (decimal_of text places above))
 
 -- what reading a whole number without a sign answers: the first fault whose cause holds, or the value, which is below 2 ^ bits
 abbrev pub magnitude_of : List ℕ → ℕ → Result ℕ DecimalFault

@@ -20,6 +20,11 @@ unfoldable pub decimal_text : ℕ → ℕ → List ℕ
 decimal_text value zero = natural_text value
 decimal_text value (suc places) = natural_text (value / 10 ^ suc places) ++ 46 ∷ last_digits (suc places) value
 
+-- the same with a sign: a minus sign (45) in front of a number below zero
+abbrev pub signed_text : ℤ → ℕ → List ℕ
+signed_text (pos n) places = decimal_text n places
+signed_text (negsuc n) places = 45 ∷ decimal_text (suc n) places
+
 -- a whole number, with a minus sign in front where it is below zero
 unfoldable pub wide_text : ℤ → List ℕ
 wide_text (pos n) = natural_text n

@@ -1,8 +1,8 @@
 //! Reading numbers from their texts, in one pass and without memory.
 
-ghost use Rattle.std.specs.Prelude.{◌≡◌, ◌+◌, ◌*◌, ◌^◌, ◌<◌, ◌≤◌, IfOk, IfSome, filter, if◌then◌else◌, is_some, min, nat_abs, nat_le, take};
+ghost use Rattle.std.specs.Prelude.{◌≡◌, ◌+◌, ◌*◌, ◌^◌, ◌<◌, ◌≤◌, IfOk, IfSome, filter, if◌then◌else◌, is_some, min, nat_abs, nat_le, neg_ℤ, pos, take, ◌≤ℤ◌};
 ghost use Rattle.std.specs.List.{prefix_len};
-ghost use Rattle.vx_num.specs.Decimal.{decimal_of, digits_worth, is_decimal, is_decimal_rest, is_digit, magnitude_of, places_of, wide_of};
+ghost use Rattle.vx_num.specs.Decimal.{decimal_of, digits_worth, is_decimal, is_decimal_rest, is_digit, magnitude_of, places_of, signed_decimal_of, wide_of};
 
 use crate::fault::DecimalFault;
 
@@ -142,6 +142,24 @@ pub fn read_decimal(text: &[u8], places: u32, max: u64) -> Result<u64, DecimalFa
     }
     let left_out = places - numeral.places as u32;
     scaled(numeral.digits, left_out, max).ok_or(DecimalFault::TooLarge)
+}
+
+/// Reads a decimal that may have a minus sign, as its value times `10^places`.
+///
+/// Behind the sign, if there is one, stands a decimal as [`read_decimal`] takes it; `-0` is lawful. The
+/// answer is from `-below` to `above`, and `None` where the text is no decimal or its value lies
+/// outside.
+pub fn read_signed(text: &[u8], places: u32, below: u32, above: u32) -> Option<i64>
+    requires { places ≤ 8 }
+    ensures answer { result ≡ signed_decimal_of text.now places below above }
+    ensures within { IfSome result (λ value. (neg_ℤ (pos below) ≤ℤ value) × (value ≤ℤ pos above)) }
+{
+    if !text.is_empty() && text[0] == b'-' {
+        let value = read_decimal(&text[1..], places, u64::from(below)).ok()?;
+        return Some(-(value as i64));
+    }
+    let value = read_decimal(text, places, u64::from(above)).ok()?;
+    Some(value as i64)
 }
 
 /// Reads digits as a whole number below `2^bits`.

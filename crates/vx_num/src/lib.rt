@@ -19,11 +19,11 @@ mod quotient;
 mod steps;
 mod writing;
 
-pub use decimal::{read_decimal, read_wide};
+pub use decimal::{read_decimal, read_signed, read_wide};
 pub use fault::{DecimalFault, NoMemory};
 pub use quotient::{div_ceil, div_floor};
 pub use steps::Steps;
-pub use writing::{write_decimal, write_wide};
+pub use writing::{write_decimal, write_signed, write_wide};
 
 #[cfg(test)]
 mod tests;

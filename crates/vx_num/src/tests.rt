@@ -3,7 +3,8 @@
 ghost use Rattle.std.specs.Prelude.{◌≡◌, ◌<◌};
 
 use crate::{
-    DecimalFault, Steps, div_ceil, div_floor, read_decimal, read_wide, write_decimal, write_wide,
+    DecimalFault, Steps, div_ceil, div_floor, read_decimal, read_signed, read_wide, write_decimal,
+    write_signed, write_wide,
 };
 use std::marker::Brand;
 use std::sync::ledger::{Blank, Ledger};
@@ -85,6 +86,23 @@ fn decimals_are_read(rt: HostRuntime) {
 }
 
 #[test]
+fn signed_decimals_are_read(rt: HostRuntime) {
+    for (text, want) in [
+        ("25.00", Some(2_500)),
+        ("25.01", None),
+        ("-5", Some(-500)),
+        ("-5.01", None),
+        ("-0", Some(0)),
+        ("-", None),
+        ("--1", None),
+        ("+1", None),
+        ("", None),
+    ] {
+        assert_eq!(rt; read_signed(text.as_bytes(), 2, 500, 2_500), want, "{text}");
+    }
+}
+
+#[test]
 fn wide_numbers_are_read(rt: HostRuntime) {
     for (text, bits, want) in [
         ("-12", 8, Ok(-12i128)),
@@ -143,8 +161,12 @@ fn numbers_are_written(rt: HostRuntime) -> Result<(), Fail> {
     write_wide(rt.alloc(), &mut out, i128::MIN)?;
     out.push(b' ')?;
     write_wide(rt.alloc(), &mut out, 0)?;
+    out.push(b' ')?;
+    write_signed(rt.alloc(), &mut out, -5, 2)?;
+    out.push(b' ')?;
+    write_signed(rt.alloc(), &mut out, i128::MIN, 12)?;
     let want =
-        b"20.66 0.000005 340282366920938463463374607431768211455 0.000000000000 -170141183460469231731687303715884105728 0";
+        b"20.66 0.000005 340282366920938463463374607431768211455 0.000000000000 -170141183460469231731687303715884105728 0 -0.05 -170141183460469231731687303.715884105728";
     assert_eq!(rt; out.as_slice(), want.as_slice());
     Ok(())
 }

@@ -1,8 +1,8 @@
 //! Writing numbers as their canonical texts.
 
-ghost use Rattle.std.specs.Prelude.{◌≡◌, ℕ, ◌+◌, ◌-◌, ◌*◌, ◌/◌, ◌^◌, ◌<◌, ◌≤◌, [], ◌∷◌, ◌++◌, drop, length, List, nat_abs, Ok, OnErr, OnOk};
-ghost use Rattle.vx_num.specs.Decimal.{decimal_of, wide_of};
-ghost use Rattle.vx_num.specs.Written.{decimal_text, digit_byte, last_digits, natural_text, wide_text};
+ghost use Rattle.std.specs.Prelude.{◌≡◌, ℕ, ◌+◌, ◌-◌, ◌*◌, ◌/◌, ◌^◌, ◌<◌, ◌≤◌, [], ◌∷◌, ◌++◌, drop, length, List, nat_abs, neg_ℤ, pos, ◌≤ℤ◌, Ok, OnErr, OnOk, Some};
+ghost use Rattle.vx_num.specs.Decimal.{decimal_of, signed_decimal_of, wide_of};
+ghost use Rattle.vx_num.specs.Written.{decimal_text, digit_byte, last_digits, natural_text, signed_text, wide_text};
 
 use crate::fault::NoMemory;
 use std::alloc::Global;
@@ -121,6 +121,18 @@ fn decimal_backwards(value: u128, places: u32) -> Backwards
     text
 }
 
+/// The text of a number with a sign over `10^places`.
+fn signed_backwards(value: i128, places: u32) -> Backwards
+    requires { places ≤ 12 }
+    ensures { result ≡ signed_text value places }
+{
+    let mut text = decimal_backwards(value.unsigned_abs(), places);
+    if value < 0 {
+        text.put(b'-');
+    }
+    text
+}
+
 /// The text of a whole number.
 fn wide_backwards(value: i128) -> Backwards
     ensures { result ≡ wide_text value }
@@ -151,6 +163,29 @@ pub fn write_decimal(
     ensures read_back { (max : ℕ) → value ≤ max → decimal_of (decimal_text value places) places max ≡ Ok value }
 {
     let text = decimal_backwards(value, places);
+    out.extend_from_slice(text.text())?;
+    Ok(())
+}
+
+/// Appends the text of `value / 10^places` as [`write_decimal`] does, behind a minus sign where the
+/// value is below zero. [`crate::read_signed`] reads it back.
+///
+/// # Errors
+///
+/// `NoMemory`, and then `out` is unchanged.
+pub fn write_signed(
+    alloc: Global,
+    out: &mut Vec<u8>,
+    value: i128,
+    places: u32,
+) -> Result<(), NoMemory>
+    requires { places ≤ 12 }
+    ensures written { OnOk result (out.new.items ≡ out.old.items ++ signed_text value places) }
+    ensures refused { OnErr result (out.new.items ≡ out.old.items) }
+    ensures read_back { (below above : ℕ) → neg_ℤ (pos below) ≤ℤ value → value ≤ℤ pos above
+        → signed_decimal_of (signed_text value places) places below above ≡ Some value }
+{
+    let text = signed_backwards(value, places);
     out.extend_from_slice(text.text())?;
     Ok(())
 }

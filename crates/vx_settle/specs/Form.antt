@@ -1,9 +1,9 @@
 -- What a line of a position says (the form is this project's own). A line's fields are the pieces between
 -- its commas, counted from 1: the contract, the quantity and the last price.
-use Rattle.std.specs.Prelude.{ℕ, ◌==◌, ℤ, pos, neg_ℤ, List, length, drop, codes, bytes_eq, slice_index, Option, Some, None, Result, Ok, Err, if◌then◌else◌}
+use Rattle.std.specs.Prelude.{ℕ, ◌==◌, ℤ, List, length, codes, bytes_eq, Option, Some, None, Result, Ok, Err, if◌then◌else◌}
 use Rattle.std.specs.Option.{option_map}
 use Rattle.std.specs.Result.{result_ok}
-use Rattle.vx_num.specs.Decimal.{decimal_of}
+use Rattle.vx_num.specs.Decimal.{decimal_of, signed_decimal_of}
 use Rattle.vx_fields.specs.Lines.{field, fields_of_line, why_unsplit}
 use Rattle.vx_fields.specs.declared.line.Unsplit.{Unsplit}
 use Rattle.vx_fields.specs.declared.line.Unsplit.TheVariants.{Empty, Byte}
@@ -20,15 +20,9 @@ contract_of_text text =
     if bytes_eq text (codes "VX") then Some Vx
     else (if bytes_eq text (codes "VXM") then Some Vxm else None)
 
--- digits that are worth at most a million
-abbrev pub count_of_text : List ℕ → Option ℕ
-count_of_text text = result_ok (decimal_of text 0 QUANTITY_MAX)
-
--- how many contracts, below zero after a `-`; 45 is the byte of `-`
+-- how many contracts, at most a million, below zero after a `-`
 abbrev pub quantity_of_text : List ℕ → Option ℤ
-quantity_of_text text =
-    if slice_index text 0 == 45 then option_map (λ count. neg_ℤ (pos count)) (count_of_text (drop 1 text))
-    else option_map pos (count_of_text text)
+quantity_of_text text = signed_decimal_of text 0 QUANTITY_MAX QUANTITY_MAX
 
 -- a price in points of at most 4 places, from 0 to 1,000 points, in ten-thousandths of a point
 abbrev pub last_of_text : List ℕ → Option ℕ

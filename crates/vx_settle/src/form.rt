@@ -8,7 +8,7 @@ use crate::fault::PositionFault;
 use crate::limits::{LAST_MAX, QUANTITY_MAX};
 use crate::position::{Contract, Position};
 use vx_fields::Fields;
-use vx_num::read_decimal;
+use vx_num::{read_decimal, read_signed};
 
 /// The fields of a position line: contract, quantity and last price.
 const FIELD_COUNT: usize = 3;
@@ -33,11 +33,7 @@ fn read_quantity(text: &[u8]) -> Option<i32>
     ensures value { result ≡ spec.quantity_of_text text.now }
     ensures in_range { IfSome result (λ quantity. unsigned_abs quantity ≤ QUANTITY_MAX) }
 {
-    if !text.is_empty() && text[0] == b'-' {
-        let count = read_decimal(&text[1..], 0, u64::from(QUANTITY_MAX)).ok()?;
-        return Some(-(count as i32));
-    }
-    let count = read_decimal(text, 0, u64::from(QUANTITY_MAX)).ok()?;
+    let count = read_signed(text, 0, QUANTITY_MAX, QUANTITY_MAX)?;
     Some(count as i32)
 }
 
