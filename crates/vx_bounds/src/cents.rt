@@ -3,12 +3,14 @@
 ghost use Rattle.std.specs.Prelude.{◌≡◌, ◌^◌, ◌≤◌, ◌≤ℤ◌};
 ghost use Rattle.vx_bounds.specs.Cents.{Decides, cents_of};
 
+use vx_num::limits::{CENT, HALF_CENT};
+
 /// What two ends of an index say, in millionths of a point.
 #[derive(Clone, Copy, Debug, PartialEq, Eq)]
 pub enum Decision {
-    /// No boundary lies between the ends: the figure, in hundredths of a point.
+    /// Rounding does not change between the ends: the figure, in hundredths of a point.
     Cents(u64),
-    /// A boundary lies above the low end and at most at the high one.
+    /// Rounding changes at a value above the low end and at most at the high one.
     Straddle,
     /// Both ends are below zero, where there is no root.
     Negative,
@@ -19,11 +21,11 @@ pub fn round_cents(v: u64) -> u64
     requires { v ≤ 2 ^ 63 }
     ensures { result ≡ cents_of v }
 {
-    (v + 5000) / 10000
+    (v + u64::from(HALF_CENT)) / u64::from(CENT)
 }
 
-/// Decides on a figure from two ends in millionths of a point. The boundaries are 0 and every half of
-/// a hundredth.
+/// Decides on a figure from two ends in millionths of a point. Rounding changes at 0 and at every half
+/// of a hundredth.
 pub fn decide(lo: i64, hi: i64) -> Decision
     requires { lo ≤ℤ hi }
     ensures { Decides lo hi result }

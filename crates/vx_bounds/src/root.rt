@@ -2,8 +2,10 @@
 
 ghost use Rattle.std.specs.Prelude.{◌≡◌, ◌+◌, ◌-◌, ◌*◌, ◌<◌, ◌≤◌, ◌+ℤ◌, ◌-ℤ◌, ◌*ℤ◌, ◌≤ℤ◌, ◌<ℤ◌, neg_ℤ, pos, nat_abs};
 ghost use Rattle.vx_num.specs.SignedSquare.{signed_square};
+ghost use Rattle.vx_num.specs.declared.limits.TheConstants.{INDEX_END_MAX, SQUARE_MAX};
 ghost use Rattle.vx_interval.specs.Ends.{unit};
 ghost use Rattle.vx_bounds.specs.Root.{IsGreatestRoot, IsLeastRoot};
+ghost use Rattle.vx_bounds.specs.declared.root.TheConstants.{SQUARE_UNITS_MAX};
 
 use vx_interval::{Iv, power_of_two};
 use vx_num::{div_ceil, div_floor};
@@ -11,12 +13,15 @@ use vx_num::{div_ceil, div_floor};
 /// The index is 100 times the root, in millionths of a point: its square is this many times the value.
 const SQUARE_OF_UNITS: i128 = 10_000_000_000_000_000;
 
+/// The greatest square whose root is taken, in units of which a root counts one.
+const SQUARE_UNITS_MAX: u128 = 10_240_000_000_000_000_000;
+
 /// The greatest whole number whose square is at most `n`.
 fn root_down(n: u128) -> u64
-    requires { n ≤ 10240000000000000000 }
+    requires { n ≤ SQUARE_UNITS_MAX }
     ensures at_most { result * result ≤ n }
     ensures next_above { n < (result + 1) * (result + 1) }
-    ensures bound { result ≤ 3200000000 }
+    ensures bound { result ≤ INDEX_END_MAX }
 {
     let root = n.isqrt();
     root as u64
@@ -25,10 +30,10 @@ fn root_down(n: u128) -> u64
 /// The least whole number whose square is at least `n`.
 fn root_up(n: u128) -> u64
     requires positive { 0 < n }
-    requires bounded { n ≤ 10240000000000000000 }
+    requires bounded { n ≤ SQUARE_UNITS_MAX }
     ensures at_least { n ≤ result * result }
     ensures last_below { (result - 1) * (result - 1) < n }
-    ensures bound { (0 < result) × (result ≤ 3200000000) }
+    ensures bound { (0 < result) × (result ≤ INDEX_END_MAX) }
 {
     let root = root_down(n);
     let square = root as u128 * root as u128;
@@ -37,10 +42,10 @@ fn root_up(n: u128) -> u64
 
 /// The greatest whole number whose signed square is at most `n`.
 fn signed_root_below(n: i128) -> i64
-    requires { nat_abs n ≤ 10240000000000000000 }
+    requires { nat_abs n ≤ SQUARE_UNITS_MAX }
     ensures at_most { signed_square result ≤ℤ n }
     ensures next_above { n <ℤ signed_square (result +ℤ pos 1) }
-    ensures bound { nat_abs result ≤ 3200000000 }
+    ensures bound { nat_abs result ≤ INDEX_END_MAX }
 {
     if n < 0 {
         -(root_up(n.unsigned_abs()) as i64)
@@ -51,10 +56,10 @@ fn signed_root_below(n: i128) -> i64
 
 /// The least whole number whose signed square is at least `n`.
 fn signed_root_above(n: i128) -> i64
-    requires { nat_abs n ≤ 10240000000000000000 }
+    requires { nat_abs n ≤ SQUARE_UNITS_MAX }
     ensures at_least { n ≤ℤ signed_square result }
     ensures last_below { signed_square (result -ℤ pos 1) <ℤ n }
-    ensures bound { nat_abs result ≤ 3200000000 }
+    ensures bound { nat_abs result ≤ INDEX_END_MAX }
 {
     -signed_root_below(-n)
 }
@@ -63,11 +68,11 @@ fn signed_root_above(n: i128) -> i64
 /// between them. The first is the greatest whole number at most the root of the low end, the second
 /// the least at least the root of the high end.
 pub fn root_ends<const P: u32>(x: &Iv<P>) -> (i64, i64)
-    requires low { neg_ℤ (pos 1024 *ℤ unit P) ≤ℤ x.now.lo }
-    requires high { x.now.hi ≤ℤ (pos 1024 *ℤ unit P) }
+    requires low { neg_ℤ (pos SQUARE_MAX *ℤ unit P) ≤ℤ x.now.lo }
+    requires high { x.now.hi ≤ℤ (pos SQUARE_MAX *ℤ unit P) }
     ensures first { IsGreatestRoot (unit P) x.now.lo result.0 }
     ensures second { IsLeastRoot (unit P) x.now.hi result.1 }
-    ensures bound { (nat_abs result.0 ≤ 3200000000) × (nat_abs result.1 ≤ 3200000000) }
+    ensures bound { (nat_abs result.0 ≤ INDEX_END_MAX) × (nat_abs result.1 ≤ INDEX_END_MAX) }
 {
     let lo = x.lo();
     let hi = x.hi();

@@ -19,4 +19,4 @@ pub const VARIANCE_MAX: u32 = vx_formula::limits::VARIANCE_MAX;
 pub const SQUARE_MAX: u32 = vx_formula::limits::SQUARE_MAX;
 
 /// The greatest end of an index that a certificate may state, in millionths of a point.
-pub const INDEX_END_MAX: u64 = 3_200_000_000;
+pub const INDEX_END_MAX: u64 = vx_num::limits::INDEX_END_MAX;

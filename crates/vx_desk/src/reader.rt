@@ -42,6 +42,7 @@ pub struct LineReader {
 
 impl Model for LineReader {
     ghost use Rattle.std.specs.Prelude.{◌≡◌, ◌+◌, ◌≤◌, vec_len, slice_range, Some, length};
+    ghost use Rattle.vx_desk.specs.declared.reader.TheConstants.{BLOCK, LONGEST_LINE};
     ghost use Rattle.vx_desk.specs.Lines.{ReaderState, bytes_given};
     ghost use Rattle.vx_desk.specs.Refill.{LiesBetween};
 
@@ -57,7 +58,7 @@ impl Model for LineReader {
       last_bytes = bytes_given r.last r.kept r.buffer.items;
     } };
 
-    ghost invariant = { λ r. (r.kept ≤ r.start) × (r.start ≤ r.end) × (r.end ≤ vec_len r.buffer) × (r.start ≤ r.kept + r.limit + 1) × (r.limit + r.limit + 1 + 65536 ≤ vec_len r.buffer) × (r.limit ≤ 1048576) × LiesBetween r.kept r.start r.last };
+    ghost invariant = { λ r. (r.kept ≤ r.start) × (r.start ≤ r.end) × (r.end ≤ vec_len r.buffer) × (r.start ≤ r.kept + r.limit + 1) × (r.limit + r.limit + 1 + BLOCK ≤ vec_len r.buffer) × (r.limit ≤ LONGEST_LINE) × LiesBetween r.kept r.start r.last };
 }
 
 impl LineReader {

@@ -6,7 +6,8 @@ use Rattle.vx_formula.specs.Level.{IsListed}
 use Rattle.vx_formula.specs.Index.{Basis}
 use Rattle.vx_formula.specs.Between.{Between, ForwardBetween}
 
--- where the rounded figure changes, in millionths of a point: each half cent, and 0, below which there is no root
+-- where the rounded figure changes, in millionths of a point: each half cent up to the one above the greatest figure, and 0,
+-- below which there is no root
 abbrev pub IsBoundary : ℤ → Type 0
 IsBoundary b = (b ≡ pos 0) ⊎ ((k : ℕ) × (k ≤ CENTS_MAX) × (b ≡ pos (CENT * k + HALF_CENT)))
 

@@ -20,13 +20,13 @@ pub const FORWARD_BITS: u32 = 27;
 pub const VARIANCE_MAX: u32 = 6;
 
 /// The greatest square of the index over 100, in absolute value, that is computed or stated.
-pub const SQUARE_MAX: u32 = 1024;
+pub const SQUARE_MAX: u32 = vx_num::limits::SQUARE_MAX;
 
 /// A cent, a hundredth of an index point, in millionths of a point.
-pub const CENT: u32 = 10_000;
+pub const CENT: u32 = vx_num::limits::CENT;
 
 /// Half a cent, in millionths of a point.
-pub const HALF_CENT: u32 = 5_000;
+pub const HALF_CENT: u32 = vx_num::limits::HALF_CENT;
 
 /// The greatest sum of a strip that is accepted.
 pub const STRIP_TOTAL_MAX: u32 = 2;
