@@ -11,7 +11,7 @@ use Rattle.vx_desk.specs.declared.lines.ReadFault.{ReadFault}
 use Rattle.vx_desk.specs.declared.lines.ReadFault.TheVariants.{Device, LineTooLong, NoEol}
 use Rattle.vx_desk.specs.declared.device.Slot.{Slot}
 use Rattle.vx_desk.specs.Told.{Told}
-use Rattle.vx_desk.specs.Lines.{ReaderState, Answers, to_come}
+use Rattle.vx_desk.specs.Lines.{ReaderState, AnswersNext, to_come}
 use Rattle.vx_desk.specs.Coming.{TakesLine, coming}
 
 first_line : (limit : ℕ) (line : List ℕ) (before after : Option (List ℕ)) → IsLine limit line → before ≡ prepend_known (line ++ line_feed ∷ []) after
@@ -34,7 +34,7 @@ lines_at_end limit (Some bytes) told = ap (lines_of limit) told ∙ lines_of_not
 
 -- the answer of `next` to a text of bytes, said of the text's lines
 pub takes_line : (old new : ReaderState) (before after : Option (List ℕ)) (result : Result (Option Line) ReadFault)
-    → new.limit ≡ old.limit → old.is_ended ≡ false → Answers old new before after result
+    → new.limit ≡ old.limit → old.is_ended ≡ false → AnswersNext old new before after result
     → TakesLine (option_map (lines_of old.limit) before) (option_map (lines_of new.limit) after) new result
 takes_line old new before after (Ok (Some line)) same ready gives =
     rw same (first_line old.limit new.last_bytes before after gives.is_line gives.taken)
@@ -48,7 +48,7 @@ takes_line old new before after (Err (NoEol number)) same ready gives =
 
 -- the same of a reader and its desk
 pub takes_coming : (old new : ReaderState) (before after : Slot → Told) (result : Result (Option Line) ReadFault) → new.slot ≡ old.slot → new.limit ≡ old.limit → old.is_ended ≡ false
-    → Answers old new (to_come old (before old.slot)) (to_come new (after old.slot)) result → TakesLine (coming old before) (coming new after) new result
+    → AnswersNext old new (to_come old (before old.slot)) (to_come new (after old.slot)) result → TakesLine (coming old before) (coming new after) new result
 takes_coming old new before after result slot limit ready answers =
     subst (λ s. TakesLine (coming old before) (option_map (lines_of new.limit) (to_come new (after s))) new result) (sym slot)
     (takes_line old new (to_come old (before old.slot)) (to_come new (after old.slot)) result limit ready answers)

@@ -13,7 +13,7 @@ use Rattle.vx_desk.specs.declared.lines.ReadFault.{ReadFault}
 use Rattle.vx_desk.specs.declared.lines.ReadFault.TheVariants.{Device, LineTooLong}
 use Rattle.vx_desk.specs.declared.lines.TheConstants.{LF}
 use Rattle.vx_desk.specs.Told.{Told, ChangesReads, ChangesOnly}
-use Rattle.vx_desk.specs.Lines.{ReaderState, to_come, HasNoLf, IsTooLong, IsCutOff, next_number, GivesLine, GivesNone, Answers, CountsReads, IsLineOrLong, holds_line}
+use Rattle.vx_desk.specs.Lines.{ReaderState, to_come, HasNoLf, IsTooLong, IsCutOff, next_number, GivesLine, GivesNone, AnswersNext, CountsReads, IsLineOrLong, holds_line}
 use Rattle.vx_desk.specs.Refill.{IsFirstLf, Refills, IsCut, Cuts, EndsInput}
 use Rattle.vx_desk.proofs.ReaderLemmas.{prepend_known-append, no_lf_passes}
 
@@ -29,9 +29,11 @@ pub record ReadsOn (old now : ReaderState) (before after : Told) : Type 0 where
   pub counts : after.failed_reads ≡ before.failed_reads
   pub rest : ChangesReads before after
 
+-- a slot that stays as it was
 pub ChangesReads-refl : (t : Told) → ChangesReads t t
 ChangesReads-refl t = record { sent = refl; is_open = refl; name = refl; opens = refl; writes = refl }
 
+-- one change of what is read after another is one
 pub ChangesReads-trans : {a b c : Told} → ChangesReads a b → ChangesReads b c → ChangesReads a c
 ChangesReads-trans p q = record {
   sent = q.sent ∙ p.sent;
@@ -41,6 +43,7 @@ ChangesReads-trans p q = record {
   writes = q.writes ∙ p.writes;
 }
 
+-- nothing is read yet
 pub ReadsOn-start : (old now : ReaderState) (t : Told) → now ≡ old → now.is_ended ≡ false → ReadsOn old now t t
 ReadsOn-start old now t is open_yet =
     let waiting = ap (λ (s : ReaderState). s.waiting) is in
@@ -52,6 +55,7 @@ ReadsOn-start old now t is open_yet =
       rest = ChangesReads-refl t;
     }
 
+-- one more read that fills the buffer
 pub ReadsOn-more : (old now new : ReaderState) (before mid after : Told) (result : Result ℕ Failed) → ReadsOn old now before mid → Refills now new mid after result → after.failed_reads ≡ mid.failed_reads → ChangesReads mid after → ReadsOn old new before after
 ReadsOn-more old now new before mid after result on more counts rest = record {
   state = more.state ∙ ap (λ (s : ReaderState). record s { waiting = new.waiting }) on.state;
@@ -105,7 +109,7 @@ too_long_before limit waiting (Some rest) h = record {
 }
 
 -- too many bytes wait with no LF
-pub ends_too_long : (old now new : ReaderState) (before after : Told) (fault : ReadFault) → ReadsOn old now before after → IsTooLong now.limit now.waiting → fault ≡ LineTooLong (next_number now.number) → new ≡ record now { is_ended = true } → Answers old new (to_come old before) (to_come new after) (Err fault)
+pub ends_too_long : (old now new : ReaderState) (before after : Told) (fault : ReadFault) → ReadsOn old now before after → IsTooLong now.limit now.waiting → fault ≡ LineTooLong (next_number now.number) → new ≡ record now { is_ended = true } → AnswersNext old new (to_come old before) (to_come new after) (Err fault)
 ends_too_long old now new before after fault on long is ended =
     let number = ap (λ (s : ReaderState). s.number) on.state in
     let limit : now.limit ≡ old.limit = ap (λ (s : ReaderState). s.limit) on.state in
@@ -128,7 +132,7 @@ pub is_too_long : (limit : ℕ) (waiting : List ℕ) → limit < length waiting 
 is_too_long limit waiting more no_lf = record { more = more; no_lf = All-take (λ byte. byte ≢ LF) (limit + 1) waiting no_lf }
 
 -- the answer at a cut
-pub answers_cut : (old now new : ReaderState) (before after : Told) (place : ℕ) (result : Result (Option Line) ReadFault) → ReadsOn old now before after → IsFirstLf now.waiting place → Cuts now new place result → Answers old new (to_come old before) (to_come new after) result
+pub answers_cut : (old now new : ReaderState) (before after : Told) (place : ℕ) (result : Result (Option Line) ReadFault) → ReadsOn old now before after → IsFirstLf now.waiting place → Cuts now new place result → AnswersNext old new (to_come old before) (to_come new after) result
 answers_cut old now new before after place (Ok None) on lf cut = absurd cut
 answers_cut old now new before after place (Ok (Some line)) on lf cut = gives_line old now new before after place line on lf cut
 answers_cut old now new before after place (Err fault) on lf cut =
@@ -143,7 +147,7 @@ cut_off_before limit waiting None e h = tt
 cut_off_before limit waiting (Some xs) e h = subst (IsCutOff limit) (sym (append-nil waiting) ∙ ap (λ ys. waiting ++ ys) (sym e)) h
 
 -- the answer at the end of the input
-pub answers_end : (old now new : ReaderState) (before after : Told) (result : Result (Option Line) ReadFault) → ReadsOn old now before after → IsAtEnd after.left → HasNoLf now.waiting → length now.waiting ≤ now.limit → EndsInput now new result → Answers old new (to_come old before) (to_come new after) result
+pub answers_end : (old now new : ReaderState) (before after : Told) (result : Result (Option Line) ReadFault) → ReadsOn old now before after → IsAtEnd after.left → HasNoLf now.waiting → length now.waiting ≤ now.limit → EndsInput now new result → AnswersNext old new (to_come old before) (to_come new after) result
 answers_end old now new before after (Ok line) on end no_lf fits h =
     let none = gives_none old now new before after on (ap (λ (s : ReaderState). s.number) h.2) (ap (λ (s : ReaderState). s.last) h.2) (ap (λ (s : ReaderState). s.last_bytes) h.2) (ap (λ (s : ReaderState). s.waiting) h.2) in
     rw h.0 (
@@ -163,7 +167,7 @@ answers_end old now new before after (Err fault) on end no_lf fits h =
     )
 
 -- the answer where the device failed
-pub answers_device : (old now new : ReaderState) (before mid after : Told) (e : Failed) → ReadsOn old now before mid → Refills now new mid after (Err e) → Answers old new (to_come old before) (to_come new after) (Err Device)
+pub answers_device : (old now new : ReaderState) (before mid after : Told) (e : Failed) → ReadsOn old now before mid → Refills now new mid after (Err e) → AnswersNext old new (to_come old before) (to_come new after) (Err Device)
 answers_device old now new before mid after e on more =
     let state : new ≡ with_waiting old new.waiting = more.state ∙ ap (λ (s : ReaderState). record s { waiting = new.waiting }) on.state in (
       record {

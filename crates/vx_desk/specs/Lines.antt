@@ -56,12 +56,12 @@ pub record EndsReading (old new : ReaderState) (number : ℕ) : Type 0 where
   pub ended : (old.is_ended ≡ false) × (new.is_ended ≡ true)
 
 -- what `next` answers, by the bytes to come before and after it
-abbrev pub Answers : ReaderState → ReaderState → Option (List ℕ) → Option (List ℕ) → Result (Option Line) ReadFault → Type 0
-Answers old new before after (Ok (Some line)) = GivesLine old new before after line
-Answers old new before after (Ok None) = GivesNone old new before after × (new.is_ended ≡ old.is_ended) × (old.is_ended ≡ false → (new.waiting ≡ []) × IsAtEnd before)
-Answers old new before after (Err Device) = GivesNone old new before after × (old.is_ended ≡ false) × (new.is_ended ≡ false)
-Answers old new before after (Err (LineTooLong number)) = GivesNone old new before after × EndsReading old new number × IsTooLong old.limit new.waiting × IfSome before (IsTooLong old.limit)
-Answers old new before after (Err (NoEol number)) = GivesNone old new before after × EndsReading old new number × IsCutOff old.limit new.waiting × IfSome before (IsCutOff old.limit)
+abbrev pub AnswersNext : ReaderState → ReaderState → Option (List ℕ) → Option (List ℕ) → Result (Option Line) ReadFault → Type 0
+AnswersNext old new before after (Ok (Some line)) = GivesLine old new before after line
+AnswersNext old new before after (Ok None) = GivesNone old new before after × (new.is_ended ≡ old.is_ended) × (old.is_ended ≡ false → (new.waiting ≡ []) × IsAtEnd before)
+AnswersNext old new before after (Err Device) = GivesNone old new before after × (old.is_ended ≡ false) × (new.is_ended ≡ false)
+AnswersNext old new before after (Err (LineTooLong number)) = GivesNone old new before after × EndsReading old new number × IsTooLong old.limit new.waiting × IfSome before (IsTooLong old.limit)
+AnswersNext old new before after (Err (NoEol number)) = GivesNone old new before after × EndsReading old new number × IsCutOff old.limit new.waiting × IfSome before (IsCutOff old.limit)
 
 -- a whole line waits, or so many bytes that the next line is too long
 abbrev pub holds_line : ReaderState → Bool

@@ -5,7 +5,7 @@ ghost use Rattle.std.specs.List.{list_any};
 ghost use Rattle.std.specs.Io.KnownBytes.{IsAtEnd};
 ghost use Rattle.vx_desk.specs.Slots.{IsReading};
 ghost use Rattle.vx_desk.specs.Told.{ChangesOnly, ChangesReads, Counts, Reads};
-ghost use Rattle.vx_desk.specs.Lines.{HasNoLf, Answers, CountsReads, IsLineOrLong, holds_line, to_come, next_number};
+ghost use Rattle.vx_desk.specs.Lines.{HasNoLf, AnswersNext, CountsReads, IsLineOrLong, holds_line, to_come, next_number};
 ghost use Rattle.vx_desk.specs.Coming.{TakesLine, coming};
 ghost use Rattle.vx_desk.specs.Refill.{Refills, IsFirstLf, Cuts, EndsInput};
 ghost use Rattle.vx_desk.specs.declared.lines.TheConstants.{LF};
@@ -87,7 +87,7 @@ impl LineReader {
     pub fn next<D: Desk>(&mut self, desk: &mut D) -> Result<Option<Line>, ReadFault>
         requires reading { IsReading self.old.slot }
         requires open { IsTrue (D.told desk.old self.old.slot).is_open }
-        ensures answers { Answers self.old self.new (to_come self.old (D.told desk.old self.old.slot)) (to_come self.new (D.told desk.new self.old.slot)) result }
+        ensures answers { AnswersNext self.old self.new (to_come self.old (D.told desk.old self.old.slot)) (to_come self.new (D.told desk.new self.old.slot)) result }
         ensures takes { self.old.is_ended ≡ false → TakesLine (coming self.old (D.told desk.old)) (coming self.new (D.told desk.new)) self.new result }
         ensures in_hand { holds_line self.old ≡ true → (desk.new ≡ desk.old) × IsLineOrLong result }
         ensures ended { self.old.is_ended ≡ true → result ≡ Ok None }
@@ -109,7 +109,7 @@ impl LineReader {
         requires reading { IsReading self.old.slot }
         requires open { IsTrue (D.told desk.old self.old.slot).is_open }
         requires ready { self.old.is_ended ≡ false }
-        ensures answers { Answers self.old self.new (to_come self.old (D.told desk.old self.old.slot)) (to_come self.new (D.told desk.new self.old.slot)) result }
+        ensures answers { AnswersNext self.old self.new (to_come self.old (D.told desk.old self.old.slot)) (to_come self.new (D.told desk.new self.old.slot)) result }
         ensures in_hand { holds_line self.old ≡ true → (desk.new ≡ desk.old) × IsLineOrLong result }
         ensures counts { CountsReads result (D.told desk.old self.old.slot).failed_reads (D.told desk.new self.old.slot).failed_reads }
         ensures rest { ChangesReads (D.told desk.old self.old.slot) (D.told desk.new self.old.slot) }

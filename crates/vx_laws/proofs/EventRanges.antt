@@ -17,7 +17,7 @@ use Rattle.vx_clock.specs.Day.{IsDayInRange, day_number, is_year_in_range, is_in
 use Rattle.vx_clock.specs.Digits.{are_digits, digits_value}
 use Rattle.vx_clock.proofs.DayNumbers.{days_from_civil_range}
 use Rattle.vx_symbol.specs.Rows.{IsRateInRange}
-use Rattle.vx_symbol.specs.Symbol.{date_of, strike_of, side_of, root_of, is_strike_in_range, IsStrikeInRange, IsSymbolInRange, symbol_of_fields, symbol_of_text}
+use Rattle.vx_symbol.specs.Symbol.{date_of_digits, strike_of, side_of, root_of, is_strike_in_range, IsStrikeInRange, IsSymbolInRange, symbol_of_fields, symbol_of_text}
 use Rattle.vx_symbol.specs.declared.symbols.Side.{Side}
 use Rattle.vx_symbol.specs.declared.symbols.Symbol.{Symbol}
 use Rattle.vx_symbol.specs.declared.symbols.SymbolFault.TheVariants.{Length}
@@ -159,7 +159,7 @@ strike_range text v h =
     let same : n ≡ v = cc in
     subst IsStrikeInRange same (leb-true 100000 n parts.0, leb-true n 50000000 parts.1)
 
-symbol_date_range : (text : List ℕ) (x : DayNo) → date_of text ≡ Some x → IsDayInRange x
+symbol_date_range : (text : List ℕ) (x : DayNo) → date_of_digits text ≡ Some x → IsDayInRange x
 symbol_date_range text x h =
     let y = 2000 + digits_value (take 2 text) in
     let m = digits_value (slice_range text 2 4) in
@@ -179,7 +179,7 @@ symbol_range (Some r) (Some d) (Some s) (Some k) x f g h =
 series_range : (text : List ℕ) (x : Symbol) → series_of_text text ≡ Some x → IsSymbolInRange x
 series_range text x h =
     let root = root_of (take 6 text) in
-    let date = date_of (slice_range text 6 12) in
+    let date = date_of_digits (slice_range text 6 12) in
     let side = side_of (slice_index text 12) in
     let strike = strike_of (slice_range text 13 21) in
     symbol_range root date side strike x (symbol_date_range (slice_range text 6 12)) (strike_range (slice_range text 13 21))

@@ -18,7 +18,7 @@ use Rattle.vx_reading.specs.declared.stop.FeedCause.TheVariants as cause
 use Rattle.vx_desk.specs.declared.lines.Line.{Line}
 use Rattle.vx_desk.specs.declared.lines.ReadFault.{ReadFault}
 use Rattle.vx_desk.specs.declared.lines.ReadFault.TheVariants.{LineTooLong, NoEol}
-use Rattle.vx_desk.specs.Lines.{Answers, ReaderState, to_come}
+use Rattle.vx_desk.specs.Lines.{AnswersNext, ReaderState, to_come}
 use Rattle.vx_desk.specs.Coming.{coming, TakesLine}
 use Rattle.vx_feed.specs.Feed.{reading_at_end}
 use Rattle.vx_reading.specs.LinesAhead.{Adds, HasCause, rest_says, fields_say, block_says, ahead_says}
@@ -165,17 +165,17 @@ kept_coming old new before after slot limit kept =
     ∙ ap (option_map (lines_of old.limit)) kept
 
 pub takes_long : (old new : ReaderState) (before after : Slot → Told) (fault : ReadFault) {number : ℕ} → new.slot ≡ old.slot → new.limit ≡ old.limit → fault ≡ LineTooLong number
-    → Answers old new (to_come old (before old.slot)) (to_come new (after old.slot)) (Err fault) → TakesLine (coming old before) (coming new after) new (Err fault)
+    → AnswersNext old new (to_come old (before old.slot)) (to_come new (after old.slot)) (Err fault) → TakesLine (coming old before) (coming new after) new (Err fault)
     → IfSome (coming old before) (λ lines. lines ≡ ended too_long) × (coming new after ≡ coming old before)
 takes_long old new before after fault {number} slot limit is answers takes =
-    let given : Answers old new (to_come old (before old.slot)) (to_come new (after old.slot)) (Err (LineTooLong number)) = subst (λ (f : ReadFault). Answers old new (to_come old (before old.slot)) (to_come new (after old.slot)) (Err f)) is answers in
+    let given : AnswersNext old new (to_come old (before old.slot)) (to_come new (after old.slot)) (Err (LineTooLong number)) = subst (λ (f : ReadFault). AnswersNext old new (to_come old (before old.slot)) (to_come new (after old.slot)) (Err f)) is answers in
     (subst (λ (f : ReadFault). TakesLine (coming old before) (coming new after) new (Err f)) is takes, kept_coming old new before after slot limit given.0.kept)
 
 pub takes_cut : (old new : ReaderState) (before after : Slot → Told) (fault : ReadFault) {number : ℕ} → new.slot ≡ old.slot → new.limit ≡ old.limit → fault ≡ NoEol number
-    → Answers old new (to_come old (before old.slot)) (to_come new (after old.slot)) (Err fault) → TakesLine (coming old before) (coming new after) new (Err fault)
+    → AnswersNext old new (to_come old (before old.slot)) (to_come new (after old.slot)) (Err fault) → TakesLine (coming old before) (coming new after) new (Err fault)
     → IfSome (coming old before) (λ lines. lines ≡ ended no_eol) × (coming new after ≡ coming old before)
 takes_cut old new before after fault {number} slot limit is answers takes =
-    let given : Answers old new (to_come old (before old.slot)) (to_come new (after old.slot)) (Err (NoEol number)) = subst (λ (f : ReadFault). Answers old new (to_come old (before old.slot)) (to_come new (after old.slot)) (Err f)) is answers in
+    let given : AnswersNext old new (to_come old (before old.slot)) (to_come new (after old.slot)) (Err (NoEol number)) = subst (λ (f : ReadFault). AnswersNext old new (to_come old (before old.slot)) (to_come new (after old.slot)) (Err f)) is answers in
     (subst (λ (f : ReadFault). TakesLine (coming old before) (coming new after) new (Err f)) is takes, kept_coming old new before after slot limit given.0.kept)
 
 -- ---- two steps

@@ -4,11 +4,11 @@ use Rattle.vx_formula.specs.Settlement.{IsSettlementAmount}
 use Rattle.vx_settle.specs.declared.position.Contract.{Contract}
 use Rattle.vx_settle.specs.declared.position.Contract.TheVariants.{Vx, Vxm}
 use Rattle.vx_settle.specs.declared.position.Position.{Position}
-use Rattle.vx_settle.specs.Position.{holding_of}
+use Rattle.vx_settle.specs.Position.{open_position_of}
 
 -- the amount of a position in cents at a figure in hundredths of a point; negative where it is paid
 abbrev pub IsAmount : ℕ → Position → ℤ → Type 0
-IsAmount figure p amount = IsSettlementAmount figure (holding_of p) amount
+IsAmount figure p amount = IsSettlementAmount figure (open_position_of p) amount
 
 -- the amounts of positions at one figure, in their order
 abbrev pub AreAmounts : ℕ → List Position → List ℤ → Type 0

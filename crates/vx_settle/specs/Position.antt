@@ -1,6 +1,6 @@
 -- Positions in volatility futures (after the contracts' terms; the ranges are this project's own).
 use Rattle.std.specs.Prelude.{ℕ, ◌≤◌, unsigned_abs}
-use Rattle.vx_formula.specs.Settlement.{Holding}
+use Rattle.vx_formula.specs.Settlement.{OpenPosition}
 use Rattle.vx_settle.specs.declared.limits.TheConstants.{LAST_MAX, MINI_MULTIPLIER, QUANTITY_MAX, STANDARD_MULTIPLIER}
 use Rattle.vx_settle.specs.declared.position.Contract.{Contract}
 use Rattle.vx_settle.specs.declared.position.Contract.TheVariants.{Vx, Vxm}
@@ -12,8 +12,8 @@ multiplier_of Vx = STANDARD_MULTIPLIER
 multiplier_of Vxm = MINI_MULTIPLIER
 
 -- a position as what the formula settles
-abbrev pub holding_of : Position → Holding
-holding_of p = record { multiplier = multiplier_of p.contract; quantity = p.quantity; last = p.last }
+abbrev pub open_position_of : Position → OpenPosition
+open_position_of p = record { multiplier = multiplier_of p.contract; quantity = p.quantity; last = p.last }
 
 -- at most a million contracts, and a last price of at most 1,000 points
 abbrev pub IsPositionInRange : Position → Type 0

@@ -34,8 +34,8 @@ root_of text =
     else (if bytes_eq text (root_text Spxw) then Some Spxw else None)
 
 -- the day that the digits `yymmdd` write
-abbrev pub date_of : List ℕ → Option DayNo
-date_of text =
+abbrev pub date_of_digits : List ℕ → Option DayNo
+date_of_digits text =
     if are_digits text then result_ok (day_of_date (YEAR_MIN + digits_value (take 2 text))
     (digits_value (slice_range text 2 4)) (digits_value (slice_range text 4 6)))
     else None
@@ -73,7 +73,7 @@ symbol_of_fields (Some r) (Some d) (Some s) (Some k) =
 abbrev pub symbol_of_text : List ℕ → Result Symbol SymbolFault
 symbol_of_text text =
     if length text == SYMBOL_LEN then symbol_of_fields (root_of (take 6 text))
-    (date_of (slice_range text 6 12)) (side_of (slice_index text 12))
+    (date_of_digits (slice_range text 6 12)) (side_of (slice_index text 12))
     (strike_of (slice_range text 13 21))
     else Err Length
 

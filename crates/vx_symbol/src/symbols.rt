@@ -2,7 +2,7 @@
 
 ghost use Rattle.std.specs.Prelude.{◌≡◌, ◌≤◌, length, slice_index, IfOk, IfSome};
 ghost use Rattle.vx_clock.specs.Day.{IsDayInRange};
-ghost use Rattle.vx_symbol.specs.Symbol.{IsSymbolInRange, IsStrikeInRange, root_text, side_byte, root_of, date_of, side_of, strike_of, symbol_of_text};
+ghost use Rattle.vx_symbol.specs.Symbol.{IsSymbolInRange, IsStrikeInRange, root_text, side_byte, root_of, date_of_digits, side_of, strike_of, symbol_of_text};
 ghost use Rattle.vx_symbol.specs.SymbolText.{symbol_text};
 
 use crate::limits::{STRIKE_MAX, STRIKE_MIN, SYMBOL_LEN};
@@ -141,7 +141,7 @@ fn read_root(text: &[u8]) -> Option<Root>
 
 fn read_date(text: &[u8]) -> Option<DayNo>
     requires { length text.now ≡ 6 }
-    ensures value { result ≡ date_of text.now }
+    ensures value { result ≡ date_of_digits text.now }
     ensures in_range { IfSome result IsDayInRange }
 {
     let year = digits::number(&text[..2])?;

@@ -7,7 +7,7 @@ use Rattle.std.proofs.lemmas.List.Folds.{list_all-append}
 use Rattle.vx_clock.specs.Day.{day_of_date}
 use Rattle.vx_clock.specs.Digits.{are_digits, number_of}
 use Rattle.vx_clock.proofs.DigitFacts.{number_of-Some}
-use Rattle.vx_symbol.specs.Symbol.{date_of}
+use Rattle.vx_symbol.specs.Symbol.{date_of_digits}
 use Rattle.vx_symbol.proofs.symbols.read_date.Goals as goal
 
 -- six bytes are three pairs
@@ -24,7 +24,7 @@ all_digits text six first second third =
     ap are_digits (pairs text six) ∙ simp (list_all-append is_ascii_digit, first, second, third)
 
 -- three pairs of digits are those of a date
-dated : (text : List ℕ) (y m d : ℕ) → length text ≡ 6 → number_of (take 2 text) ≡ Some y → number_of (slice_range text 2 4) ≡ Some m → number_of (slice_range text 4 6) ≡ Some d → date_of text ≡ result_ok (day_of_date (2000 + y) m d)
+dated : (text : List ℕ) (y m d : ℕ) → length text ≡ 6 → number_of (take 2 text) ≡ Some y → number_of (slice_range text 2 4) ≡ Some m → number_of (slice_range text 4 6) ≡ Some d → date_of_digits text ≡ result_ok (day_of_date (2000 + y) m d)
 dated text y m d six year month day =
     let ys = number_of-Some (take 2 text) y year in
     let ms = number_of-Some (slice_range text 2 4) m month in
