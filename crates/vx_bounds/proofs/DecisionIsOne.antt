@@ -5,6 +5,7 @@ use Rattle.vx_bounds.specs.Cents.{Decides, cents_of}
 use Rattle.vx_bounds.specs.declared.cents.Decision.{Decision}
 use Rattle.vx_bounds.specs.declared.cents.Decision.TheVariants.{Cents, Straddle, Negative}
 
+-- ordered ends have one decision
 pub decision_is_one : (lo hi : ℤ) (a b : Decision) → lo ≤ℤ hi → Decides lo hi a → Decides lo hi b → a ≡ b
 decision_is_one lo hi (Cents c) (Cents d) less (none, low, v, e, f) (none', low', w, g, h) =
     let same : v ≡ w = omega (arith, ints) in

@@ -10,10 +10,12 @@ pub record IsUnit (u : ℕ) : Type 0 where
   pub low : 2 ^ 40 ≤ u
   pub high : u ≤ 2 ^ 62
 
+-- the first high term is the unit
 pub high_first : (u p q : ℕ) → high_term u p q 0 ≡ u
 unfolding high_term
 high_first u p q = refl
 
+-- and so is the first low term
 pub low_first : (u p q : ℕ) → low_term u p q 0 ≡ u
 unfolding low_term
 low_first u p q = refl
@@ -27,14 +29,17 @@ falls (suc a) b c two h = let m : 2 * suc a ≤ c * suc a = mul-le-mul_right (su
     falls_more zero b c n k = omega arith
     falls_more (suc a) b c n k = omega arith
 
+-- high terms do not grow
 pub high_falls : (u p q k : ℕ) → 0 < q → 8 * p ≤ q → high_term u p q (suc k) ≤ high_term u p q k
 high_falls u p q k h s =
     falls (high_term u p q (suc k)) (high_term u p q k) (8 * suc k) (omega arith) (high_shrinks u p q k h s)
 
+-- so each is at most the unit
 pub high_at_most : (u p q k : ℕ) → 0 < q → 8 * p ≤ q → high_term u p q k ≤ u
 high_at_most u p q zero h s = rw (high_first u p q) (le_refl u)
 high_at_most u p q (suc k) h s = le_trans (high_falls u p q k h s) (high_at_most u p q k h s)
 
+-- and each low term
 pub low_at_most : (u p q k : ℕ) → 0 < q → 8 * p ≤ q → low_term u p q k ≤ u
 low_at_most u p q k h s = le_trans (low_under_high u p q k h) (high_at_most u p q k h s)
 
@@ -74,6 +79,7 @@ sum_gap u p q (suc n) h s =
     let here : high_term u p q (suc (suc n)) ≤ low_term u p q (suc (suc n)) + 2 = gap_after u p q (suc n) h s in
     omega arith
 
+-- the low sum is at most the high sum
 pub sum_order : (u p q n : ℕ) → 0 < q → low_sum u p q n ≤ high_sum u p q n
 unfolding high_sum low_sum
 sum_order u p q zero h = low_under_high u p q 0 h
@@ -84,6 +90,7 @@ pub ends_order : (u p q : ℕ) → 0 < q → low_end u p q ≤ high_end u p q
 unfolding low_end high_end
 ends_order u p q h = let a = sum_order u p q 12 h in omega arith
 
+-- the two ends are at most 25 units apart
 pub ends_close : (u p q : ℕ) → 0 < q → 8 * p ≤ q → u ≤ 2 ^ 62 → high_end u p q ≤ low_end u p q + 25
 unfolding low_end high_end
 ends_close u p q h s l =
@@ -97,6 +104,7 @@ unfolding low_sum
 low_sum_grows u p q zero = rw (low_first u p q) (le_refl u)
 low_sum_grows u p q (suc n) = let a = low_sum_grows u p q n in omega arith
 
+-- the low end is at least the unit
 pub low_end_above : (u p q : ℕ) → u ≤ low_end u p q
 unfolding low_end
 low_end_above u p q = low_sum_grows u p q 12
@@ -127,6 +135,7 @@ high_end_below u p q h s k =
 
 -- ---- sums on the way fit: what is added so far and the last term are at most 2*u, and 2 for each rounding up
 
+-- the low sum with its last term stays within twice the unit
 pub low_so_far : (u p q n : ℕ) → 0 < q → 8 * p ≤ q → low_sum u p q n + low_term u p q n ≤ 2 * u
 unfolding low_sum
 low_so_far u p q zero h s = let e = low_first u p q in omega arith
@@ -140,6 +149,7 @@ half : (a b c : ℕ) → 2 ≤ c → c * a < b + c → 2 * a ≤ b + 2
 half zero b c two h = omega arith
 half (suc a) b c two h = let k : 2 * a ≤ c * a = mul-le-mul_right a two in let n : c * a + c < b + c = omega arith in omega arith
 
+-- the high sum with its last term stays within twice the unit and twice the count of terms
 pub high_so_far : (u p q n : ℕ) → 0 < q → 8 * p ≤ q → high_sum u p q n + high_term u p q n ≤ 2 * u + 2 * n
 unfolding high_sum
 high_so_far u p q zero h s = let e = high_first u p q in omega arith

@@ -30,12 +30,14 @@ least_is_at_most u y a b h k l =
 same : (a b : ℤ) → a ≤ℤ b → b ≤ℤ a → a ≡ b
 same a b h k = omega (arith, ints)
 
+-- there is one greatest root below and one least root above
 pub roots_are_one : (u y a b : ℤ) → pos 0 ≤ℤ u → (IsGreatestRoot u y a → IsGreatestRoot u y b → a ≡ b) × (IsLeastRoot u y a → IsLeastRoot u y b → a ≡ b)
 roots_are_one u y a b h = (
   (λ k l. same a b (greatest_is_at_least u y b a h l k) (greatest_is_at_least u y a b h k l)),
   (λ k l. same a b (least_is_at_most u y a b h k l) (least_is_at_most u y b a h l k)),
 )
 
+-- the root below a number is at most the root above a number that is no less
 pub roots_are_ordered : (u x y a b : ℤ) → pos 0 <ℤ u → x ≤ℤ y → IsGreatestRoot u x a → IsLeastRoot u y b → a ≤ℤ b
 roots_are_ordered u x y a b h less k l =
     let step = mul_mono_left x y (pos (10 ^ 16)) (omega (arith, ints)) less in

@@ -13,6 +13,7 @@ use Rattle.vx_bounds.proofs.Loops.{Collects}
 pub divisor_above : (p q k : ℕ) → 8 * p ≤ q → p ≤ q * (k + 1)
 divisor_above p q k h = let m : q * 1 ≤ q * (k + 1) = mul-le-mul_left q (omega arith) in omega arith
 
+-- the divisor of a term is positive
 pub divisor_positive : (q k : ℕ) → 0 < q → 0 < q * (k + 1)
 divisor_positive q k h = mul-pos h (omega arith)
 
@@ -20,6 +21,7 @@ divisor_positive q k h = mul-pos h (omega arith)
 pub product_bound : (t p q : ℕ) → t ≤ 2 ^ 62 → 8 * p ≤ q → q < 2 ^ 46 → t * p ≤ 2 ^ 105
 product_bound t p q h s b = let l : p ≤ 2 ^ 43 = omega arith in let m : t * p ≤ 2 ^ 62 * 2 ^ 43 = mul-le-mul h l in omega arith
 
+-- it is at most 2^50
 pub divisor_bound : (q k : ℕ) → q < 2 ^ 46 → k < 13 → q * (k + 1) ≤ 2 ^ 50
 divisor_bound q k b l = let a : q ≤ 2 ^ 46 = omega arith in let c : k + 1 ≤ 13 = omega arith in let m : q * (k + 1) ≤ 2 ^ 46 * 13 = mul-le-mul a c in omega arith
 
@@ -27,6 +29,7 @@ divisor_bound q k b l = let a : q ≤ 2 ^ 46 = omega arith in let c : k + 1 ≤ 
 pub low_fits : (t p q k : ℕ) → 8 * p ≤ q → t * p / (q * (k + 1)) ≤ t
 low_fits t p q k h = div-le_of_le-mul (q * (k + 1)) (let m : t * p ≤ t * (q * (k + 1)) = mul-le-mul_left t (divisor_above p q k h) in omega arith)
 
+-- a high term is at most one above the term before
 pub high_fits : (t p q k : ℕ) → 0 < q → 8 * p ≤ q → div_ceil (t * p) (q * (k + 1)) ≤ t + 1
 high_fits t p q k hq h =
     let d : ℕ = q * (k + 1) in
@@ -39,22 +42,27 @@ high_fits t p q k hq h =
 
 -- ---- the loops
 
+-- the next low term, as it is computed
 pub low_next_is : (u p q k : ℕ) → low_term u p q (k + 1) ≡ low_term u p q k * p / (q * (k + 1))
 unfolding low_term
 low_next_is u p q k = rw (add-one k) refl
 
+-- the next high term, as it is computed
 pub high_next_is : (u p q k : ℕ) → high_term u p q (k + 1) ≡ div_ceil (high_term u p q k * p) (q * (k + 1))
 unfolding high_term
 high_next_is u p q k = rw (add-one k) refl
 
+-- the next low sum
 pub low_sum_next : (u p q k : ℕ) → low_sum u p q (k + 1) ≡ low_sum u p q k + low_term u p q (k + 1)
 unfolding low_sum
 low_sum_next u p q k = rw (add-one k) refl
 
+-- the next high sum
 pub high_sum_next : (u p q k : ℕ) → high_sum u p q (k + 1) ≡ high_sum u p q k + high_term u p q (k + 1)
 unfolding high_sum
 high_sum_next u p q k = rw (add-one k) refl
 
+-- the loop gathers one term more
 pub collects_more : (term sum : ℕ → ℕ) (k : ℕ) (terms : List ℕ) (last added next : ℕ) → k < 13 → Collects term sum k terms last added → next ≡ term (k + 1) → sum (k + 1) ≡ sum k + term (k + 1)
     → Collects term sum (k + 1) (set terms (k + 1) next) next (added + next)
 collects_more term sum k terms last added next l c e f =
@@ -70,6 +78,7 @@ collects_more term sum k terms last added next l c e f =
       added_is = omega (arith, c.added_is);
     }
 
+-- before the loop the first term is gathered
 pub collects_none : (term sum : ℕ → ℕ) (terms : List ℕ) (last added : ℕ) → length terms ≡ 14 → get_or terms 0 0 ≡ term 0 → last ≡ term 0 → added ≡ sum 0 → Collects term sum 0 terms last added
 collects_none term sum terms last added count first l a = record {
   count = count;
@@ -78,6 +87,7 @@ collects_none term sum terms last added count first l a = record {
   added_is = a;
 }
 
+-- with its last term the list is complete
 pub terms_done : (term sum : ℕ → ℕ) (k : ℕ) (terms : List ℕ) (last added next : ℕ) → k ≡ 12 → Collects term sum k terms last added → next ≡ term 13 → IsTerms term (set terms 13 next)
 terms_done term sum k terms last added next e c n =
     let count = c.count in
@@ -90,10 +100,12 @@ terms_done term sum k terms last added next e c n =
       ];
     }
 
+-- the first low sum is the unit
 pub low_sum_first : (u p q : ℕ) → low_sum u p q 0 ≡ u
 unfolding low_sum
 low_sum_first u p q = low_first u p q
 
+-- and so is the first high sum
 pub high_sum_first : (u p q : ℕ) → high_sum u p q 0 ≡ u
 unfolding high_sum
 high_sum_first u p q = high_first u p q

@@ -18,6 +18,7 @@ use Rattle.vx_bounds.specs.Exponential.{IsTerms, low_term, high_term, low_sum, h
 use Rattle.vx_bounds.proofs.TermLemmas.{low_step, high_step}
 use Rattle.vx_bounds.proofs.EndLemmas.{IsUnit, last_term, ends_order, ends_close, low_end_above, high_end_below, low_first, high_first}
 
+-- the unit of each scale is in range
 pub unit_facts : (P : ℕ) → IsScale P → IsUnit (2 ^ P)
 unit_facts P h =
     let e : 2 ^ (7 + (P - 7)) ≡ 2 ^ 7 * 2 ^ (P - 7) = pow-add 2 7 (P - 7) in
@@ -36,12 +37,14 @@ unfolding high_sum partial_sum
 high_sum_is u p q zero = refl
 high_sum_is u p q (suc n) = ap (λ z. z + high_term u p q (suc n)) (high_sum_is u p q n)
 
+-- the low end is at most Taylor's sum
 pub low_end_below : (u p q : ℕ) → low_end u p q * series_bottom q 12 ≤ u * series_top p q 12
 unfolding low_end
 low_end_below u p q =
     let P : ℕ → Type 0 = λ z. z * series_bottom q 12 ≤ u * series_top p q 12 in
     subst P (sym (low_sum_is u p q 12)) (sum_below u p q (low_term u p q) 12 (rw (low_first u p q) (le_refl u)) (λ k h. low_step u p q k))
 
+-- the high end is at least the sum with its remainder
 pub high_end_above : (u p q : ℕ) → 0 < q → u * upper_top p q 12 ≤ high_end u p q * series_bottom q 13
 unfolding high_end
 high_end_above u p q hq =
@@ -58,15 +61,18 @@ enclosed_at P p q (pos t) b hq ht m =
     member_of P (low_end (2 ^ P) p q) (high_end (2 ^ P) p q) t b m.proper
     (enclosed_up (2 ^ P) p q 12 (low_end (2 ^ P) p q) (high_end (2 ^ P) p q) t b hq (low_end_below (2 ^ P) p q) (high_end_above (2 ^ P) p q hq) c.above_sum c.below_upper)
 
+-- the ends enclose each member of the bracket
 pub exp_encloses : (P p q : ℕ) (f : Fraction) → 0 < q → Bracket 12 (natural p q) f → IsMember P (exp_ends P p q) f
 exp_encloses P p q f hq m = enclosed_at P p q f.top f.bottom hq (members_are_positive 12 (natural p q) f hq m) m
 
 -- ---- how the ends lie
 
+-- the low end is at least 1
 pub exp_at_least_one : (P p q : ℕ) → unit P ≤ℤ (exp_ends P p q).lo
 unfolding unit
 exp_at_least_one P p q = let a = low_end_above (2 ^ P) p q in omega (arith, ints)
 
+-- the ends are ordered, narrow and in range
 pub exp_is_good : (P p q : ℕ) → IsScale P → 0 < q → 8 * p ≤ q → IsTightValue P 25 (exp_ends P p q)
 unfolding unit
 exp_is_good P p q s hq h =
@@ -96,17 +102,20 @@ pub record IsReciprocal (u A B l h : ℕ) : Type 0 where
 not_more : (a b d : ℕ) → a * d < (b + 1) * d → a ≤ b
 not_more a b d h = let l : a < b + 1 = lt_of_mul-lt-mul_right d h in omega arith
 
+-- a reciprocal of what is at least the unit is at most the unit
 pub reciprocal_high : (u A B l h : ℕ) → 0 < u → u ≤ A → IsReciprocal u A B l h → h ≤ u
 reciprocal_high u A B l h hu a r =
     let top = r.ceil_last in
     let m : u * u ≤ u * A = mul-le-mul_left u a in
     not_more h u A (omega arith)
 
+-- reciprocals of ordered ends are ordered
 pub reciprocal_order : (u A B l h : ℕ) → 0 < B → A ≤ B → IsReciprocal u A B l h → l ≤ h
 reciprocal_order u A B l h hb ab r =
     let m : h * A ≤ h * B = mul-le-mul_left h ab in
     le_of_mul-le-mul_right (le_trans r.floor_at_most (le_trans r.ceil_at_least m)) hb
 
+-- reciprocals of ends 25 units apart are at most 27 units apart
 pub reciprocal_close : (u A B l h : ℕ) → 2 ^ 40 ≤ u → u ≤ A → B ≤ A + 25 → A ≤ B → IsReciprocal u A B l h → h ≤ l + 27
 reciprocal_close u A B l h hu a b ab r =
     let top = r.ceil_last in
@@ -118,6 +127,7 @@ reciprocal_close u A B l h hu a b ab r =
     reciprocal_low : (u A B l h : ℕ) → 0 < u → u ≤ A → A ≤ B → IsReciprocal u A B l h → l ≤ u
     reciprocal_low u A B l h hu a ab r = le_trans (reciprocal_order u A B l h (omega arith) ab r) (reciprocal_high u A B l h hu a r)
 
+-- the ends are the reciprocals of A and B, rounded outwards
 pub record HasReciprocal (u A B : ℕ) (x : Ends) : Type 0 where
   pub l : ℕ
   pub h : ℕ
@@ -135,6 +145,7 @@ from_quotients u A B (pos z) (pos w) ha hb f c =
     let c2 = c.last_below in
     record { l = z; h = w; low_is = refl; high_is = refl; reciprocal = record { floor_at_most = omega (arith, ints); floor_next = omega (arith, ints); ceil_at_least = omega (arith, ints); ceil_last = omega (arith, ints) } }
 
+-- the ends for a negative exponent are the reciprocals of those at its opposite
 pub negative_ends : (P p q : ℕ) → 0 < q → HasReciprocal (2 ^ P) (low_end (2 ^ P) (suc p) q) (high_end (2 ^ P) (suc p) q) (signed_ends P (negsuc p) q)
 negative_ends P p q hq =
     let u : ℕ = 2 ^ P in
@@ -158,6 +169,7 @@ negative_at P p q (pos t) b hq ht m =
     let Q : Ends → Type 0 = λ x. IsMember P x (natural t b) in
     subst Q (sym (same_ends (signed_ends P (negsuc p) q) (record { lo = pos n.l; hi = pos n.h }) n.low_is n.high_is)) (member_of P n.l n.h t b m.proper d)
 
+-- for each sign of the exponent the ends enclose each member of the bracket
 pub signed_encloses : (P : ℕ) (p : ℤ) (q : ℕ) (f : Fraction) → 0 < q → Bracket 12 (record { top = p; bottom = q }) f → IsMember P (signed_ends P p q) f
 signed_encloses P (pos p) q f hq m = exp_encloses P p q f hq m
 signed_encloses P (negsuc p) q f hq m = negative_at P p q f.top f.bottom hq (members_are_positive 12 (record { top = negsuc p; bottom = q }) f hq m) m
@@ -172,6 +184,7 @@ good_naturals P l k s high ordered narrow at_most = record {
   nonneg = omega (arith, ints);
 }
 
+-- for a negative exponent they are ordered, narrow and in range
 pub negative_is_good : (P p q : ℕ) → IsScale P → 0 < q → 8 * suc p ≤ q → IsTightValue P 27 (signed_ends P (negsuc p) q)
 negative_is_good P p q s hq h =
     let n = negative_ends P p q hq in
@@ -194,6 +207,7 @@ negative_is_good P p q s hq h =
 
 -- ---- what the code has found
 
+-- the computed sums give the ends of the exponential
 pub record IsFound (P p q low high last : ℕ) : Type 0 where
   pub low_is : low ≡ low_end (2 ^ P) p q
   pub high_is : high + 2 * last ≡ high_end (2 ^ P) p q
@@ -212,9 +226,11 @@ found_at P p q low high last s hq h a b e =
     let order : low_sum (2 ^ P) p q 12 ≤ high_sum (2 ^ P) p q 12 + 2 * high_term (2 ^ P) p q 13 = ends_order (2 ^ P) p q hq in
     record { low_is = a; high_is = f; last_small = omega arith; fits = omega arith; ordered = omega arith }
 
+-- the sums of a complete loop do
 pub found : (P p q one low high : ℕ) (terms : List ℕ) → IsScale P → 0 < q → 8 * p ≤ q → one ≡ 2 ^ P → low ≡ low_sum one p q 12 → high ≡ high_sum one p q 12 → IsTerms (high_term one p q) terms → IsFound P p q low high (get_or terms 13 0)
 found P p q one low high terms s hq h e a b t =
     found_at P p q low high (get_or terms 13 0) s hq h (a ∙ ap (λ u. low_sum u p q 12) e) (b ∙ ap (λ u. high_sum u p q 12) e) (t.each 13 (omega arith) ∙ ap (λ u. high_term u p q 13) e)
 
+-- the unit of each scale is at most 2^62
 pub units_small : (P one : ℕ) → IsScale P → one ≡ 2 ^ P → one ≤ 2 ^ 62
 units_small P one s e = let m : 2 ^ P ≤ 2 ^ 62 = pow_mono s.1 in omega arith

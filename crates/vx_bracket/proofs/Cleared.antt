@@ -15,12 +15,14 @@ cross_trans a b c d e f hd first second =
 
 -- ---- denominators and sums are positive
 
+-- a sum has a positive denominator
 pub bottom_positive : (q n : ℕ) → 0 < q → 0 < series_bottom q n
 unfolding series_bottom
 bottom_positive q zero h = omega arith
 bottom_positive q (suc n) h =
     let k : 0 < q * suc n = mul-pos h (omega arith) in mul-pos (bottom_positive q n h) k
 
+-- a sum is at least 1
 pub bottom_below_top : (p q n : ℕ) → series_bottom q n ≤ series_top p q n
 unfolding series_bottom series_top
 bottom_below_top p q zero = le_refl 1
@@ -28,6 +30,7 @@ bottom_below_top p q (suc n) =
     let k : series_bottom q n * (q * suc n) ≤ series_top p q n * (q * suc n) = mul-le-mul_right (q * suc n) (bottom_below_top p q n) in
     omega arith
 
+-- so its numerator is positive
 pub top_positive : (p q n : ℕ) → 0 < q → 0 < series_top p q n
 top_positive p q n h = let b = bottom_below_top p q n in let c = bottom_positive q n h in omega arith
 
@@ -75,6 +78,7 @@ high_nested p q n (suc m) hq hp h =
     two_steps : (p q m : ℕ) → p ≤ q → 2 * p ≤ q * suc (suc m)
     two_steps p q m h = let more : q * 2 ≤ q * suc (suc m) = mul-le-mul_left q (omega arith) in omega arith
 
+-- Taylor's sum is at most the sum with its remainder
 pub low_below_high : (p q n : ℕ) → series_top p q n * series_bottom q (suc n) ≤ upper_top p q n * series_bottom q n
 unfolding series_bottom series_top upper_top
 low_below_high p q n = omega arith
@@ -84,11 +88,13 @@ low_below_high p q n = omega arith
 zero_power : (n : ℕ) → 0 ^ suc n ≡ 0
 zero_power n = pow-succ' 0 n ∙ omega arith
 
+-- at the exponent 0 the sum is 1
 pub top_at_zero : (q n : ℕ) → series_top 0 q n ≡ series_bottom q n
 unfolding series_bottom series_top
 top_at_zero q zero = refl
 top_at_zero q (suc n) = let z = zero_power n in let e = top_at_zero q n in rw (e, z) (omega arith)
 
+-- and so is the sum with its remainder
 pub upper_at_zero : (q n : ℕ) → upper_top 0 q n ≡ series_bottom q (suc n)
 unfolding series_bottom series_top upper_top
 upper_at_zero q n = let z = zero_power n in let e = top_at_zero q n in rw (e, z) (omega arith)

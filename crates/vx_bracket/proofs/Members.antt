@@ -15,6 +15,7 @@ use Rattle.vx_bracket.proofs.Series.{natural, IsBetweenCleared, between_cleared,
 pub bracket_up : (n p q u v : ℕ) → 0 < q → Bracket n (natural p q) (natural u v) → IsBetweenCleared n p q u v
 bracket_up n p q u v hq h = between_cleared n p q u v hq (h.from_zero (omega (arith, ints)))
 
+-- for an exponent that is not negative the cleared sums give the bracket
 pub up_bracket : (n p q u v : ℕ) → 0 < q → 0 < v → IsBetweenCleared n p q u v → Bracket n (natural p q) (natural u v)
 up_bracket n p q u v hq hv h = record {
   proper = hv;
@@ -26,6 +27,7 @@ up_bracket n p q u v hq hv h = record {
 pub bracket_down : (n p q u v : ℕ) → 0 < q → Bracket n (record { top = negsuc p; bottom = q }) (natural u v) → IsBetweenCleared n (suc p) q v u
 bracket_down n p q u v hq h = between_cleared n (suc p) q v u hq ((h.below_zero (omega (arith, ints))).1)
 
+-- for a negative one their reciprocals do
 pub down_bracket : (n p q u v : ℕ) → 0 < q → 0 < u → 0 < v → IsBetweenCleared n (suc p) q v u → Bracket n (record { top = negsuc p; bottom = q }) (natural u v)
 down_bracket n p q u v hq hu hv h = record {
   proper = hv;
@@ -39,6 +41,7 @@ positive_at : (n : ℕ) (x : ℤ) (q : ℕ) (f : Fraction) → 0 < q → Bracket
 positive_at n (pos p) q f hq h = between_positive n p q f hq h.proper (h.from_zero (omega (arith, ints)))
 positive_at n (negsuc p) q f hq h = (h.below_zero (omega (arith, ints))).0
 
+-- each member of a bracket is positive
 pub members_are_positive : MembersArePositive
 members_are_positive n x f hx h = positive_at n x.top x.bottom f hx h
 
@@ -54,6 +57,7 @@ has_member_at n (negsuc p) q hq = (
   down_bracket n p q (series_bottom q n) (series_top (suc p) q n) hq (bottom_positive q n hq) (top_positive (suc p) q n hq) (record { above_sum = le_refl (series_top (suc p) q n * series_bottom q n); below_upper = low_below_high (suc p) q n }),
 )
 
+-- each bracket has a member
 pub bracket_has_member : BracketHasMember
 bracket_has_member n x hx = has_member_at n x.top x.bottom hx
 
@@ -70,9 +74,11 @@ nest_at n m x q (negsuc u) v hq hx le hu h = absurd (omega (arith, ints))
 nest_at n m (pos p) q (pos u) v hq hx le hu h = up_bracket n p q u v hq h.proper (nest_cleared n m p q u v hq hx le (bracket_up m p q u v hq h))
 nest_at n m (negsuc p) q (pos u) v hq hx le hu h = down_bracket n p q u v hq (omega (arith, ints)) h.proper (nest_cleared n m (suc p) q v u hq hx le (bracket_down m p q u v hq h))
 
+-- a bracket of more terms lies within one of fewer
 pub brackets_nest : BracketsNest
 brackets_nest n m x f hx one le h = nest_at n m x.top x.bottom f.top f.bottom hx one le (members_are_positive m x f hx h) h
 
+-- so brackets of any two depths have a common member
 pub brackets_meet : BracketsMeet
 brackets_meet n m x hx one =
     let common = bracket_has_member (n + m) x hx in (
@@ -108,6 +114,7 @@ one_at n (pos p) q (pos u) v hq e hu h =
     let same : u ≡ v = one_at_zero n q u v hq (subst P none (bracket_up n p q u v hq h)) in
     omega (arith, ints)
 
+-- at the exponent 0 the one member is 1
 pub zero_gives_one : ZeroGivesOne
 zero_gives_one n x f hx e h = one_at n x.top x.bottom f.top f.bottom hx e (members_are_positive n x f hx h) h
 
@@ -129,5 +136,6 @@ agree_at n (pos zero) q (negsuc u) v hq hv e = (
   (λ h. let positive : pos 0 <ℤ negsuc u = h.0 in absurd (omega (arith, ints))),
 )
 
+-- there both forms of the bracket agree
 pub forms_agree_at_zero : FormsAgreeAtZero
 forms_agree_at_zero n x f hx hf e = agree_at n x.top x.bottom f.top f.bottom hx hf e

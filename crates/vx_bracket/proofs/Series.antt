@@ -11,6 +11,7 @@ use Rattle.vx_bracket.proofs.Cleared.{bottom_positive, top_positive}
 abbrev pub natural : ℕ → ℕ → Fraction
 natural p q = record { top = pos p; bottom = q }
 
+-- a power of a fraction, by its top and bottom
 pub power_is : (p q k : ℕ) → power (natural p q) k ≡ natural (p ^ k) (q ^ k)
 unfolding power
 power_is p q zero = ap₂ natural (sym (pow-zero p)) (sym (pow-zero q))
@@ -21,6 +22,7 @@ unfolding factorial series_bottom
 factorial_is q zero = rw (pow-zero q) refl
 factorial_is q (suc k) = let e = factorial_is q k in rw (pow-suc q k, ← e) (omega arith)
 
+-- a term of the series, by its top and bottom
 pub term_is : (p q k : ℕ) → series_term k (natural p q) ≡ natural (p ^ k) (series_bottom q k)
 unfolding series_term
 term_is p q k = rw (power_is p q k) (ap (natural (p ^ k)) (factorial_is q k))
@@ -33,6 +35,7 @@ pub record IsCleared (s : Fraction) (top bottom : ℕ) : Type 0 where
   pub positive : 0 < b
   pub equal : a * bottom ≡ top * b
 
+-- Taylor's sum is its cleared top over its cleared bottom
 pub sum_cleared : (p q n : ℕ) → 0 < q → IsCleared (series_sum n (natural p q)) (series_top p q n) (series_bottom q n)
 unfolding series_sum series_top series_bottom
 sum_cleared p q zero hq = record { a = 1; b = 1; is = term_is p q zero ∙ rw (pow-zero p) refl; positive = omega arith; equal = refl }
@@ -52,6 +55,7 @@ sum_cleared p q (suc n) hq =
       equal = omega arith;
     }
 
+-- so is the sum with its remainder
 pub upper_cleared : (p q n : ℕ) → 0 < q → IsCleared (series_upper n (natural p q)) (upper_top p q n) (series_bottom q (suc n))
 unfolding series_upper upper_top series_bottom
 upper_cleared p q n hq =
@@ -95,10 +99,12 @@ same_above a b t s u v hb hs e h =
 
 -- ---- between the sums, with the denominators cleared
 
+-- a fraction lies between the two cleared sums
 pub record IsBetweenCleared (n p q u v : ℕ) : Type 0 where
   pub above_sum : series_top p q n * v ≤ u * series_bottom q n
   pub below_upper : u * series_bottom q (suc n) ≤ upper_top p q n * v
 
+-- between the sums is between the cleared sums
 pub between_cleared : (n p q u v : ℕ) → 0 < q → IsBetweenSums n (natural p q) (natural u v) → IsBetweenCleared n p q u v
 between_cleared n p q u v hq h =
     let s = sum_cleared p q n hq in
@@ -110,6 +116,7 @@ between_cleared n p q u v hq h =
       below_upper = same_above w.a w.b (upper_top p q n) (series_bottom q (suc n)) u v w.positive (bottom_positive q (suc n) hq) w.equal high;
     }
 
+-- and the other way round
 pub cleared_between : (n p q u v : ℕ) → 0 < q → IsBetweenCleared n p q u v → IsBetweenSums n (natural p q) (natural u v)
 cleared_between n p q u v hq h =
     let s = sum_cleared p q n hq in
@@ -138,6 +145,7 @@ sum_positive p q n hq =
     positive_factor zero b h = omega arith
     positive_factor (suc a) b h = omega arith
 
+-- what lies between the sums is positive
 pub between_positive : (n p q : ℕ) (f : Fraction) → 0 < q → 1 ≤ f.bottom → IsBetweenSums n (natural p q) f → pos 0 <ℤ f.top
 between_positive n p q f hq hf h =
     let s = sum_cleared p q n hq in

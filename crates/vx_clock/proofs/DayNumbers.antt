@@ -13,6 +13,7 @@ use Rattle.jiff_core.proofs.MarchLemmas.{day_count-early}
 pub year_start : (y : ℤ) (n : ℕ) → y +ℤ pos 1 ≡ pos (n - 9998) → 9999 ≤ n → day_count y 1 1 ≡ 365 * n + n / 4 - n / 100 + n / 400 + 366
 year_start y n e low = omega (arith, day_count-early y n 1 1 (omega (arith, signed_arith)) (omega arith) (omega arith) (omega arith))
 
+-- the days of the years 2000 to 2099 have the numbers 10957 to 47481
 pub days_from_civil_range : (y m d : ℕ) → 2000 ≤ y → y ≤ 2099 → IsCivilDate (pos y) m d → (pos 10957 ≤ℤ days_from_civil (pos y) m d) × (days_from_civil (pos y) m d ≤ℤ pos 47481)
 days_from_civil_range y m d low high is =
     let first = year_start (pos y) (y + 9999) (omega (arith, signed_arith)) (omega arith) in

@@ -59,9 +59,11 @@ last_next test first (suc more) = by (test (first + suc more)) refl (last_next t
 
 -- ---- day numbers in order
 
+-- the test of at most holds where it is so
 pub is_at_most : (a b : ℤ) → a ≤ℤ b → int_le a b ≡ true
 is_at_most a b h = grind (arith, signed_arith)
 
+-- and fails where it is not
 pub is_not_at_most : (a b : ℤ) → b <ℤ a → int_le a b ≡ false
 is_not_at_most a b h = grind (arith, signed_arith)
 
@@ -227,6 +229,7 @@ dated day is =
     passes (year_of day) (month_of day) (day_in_month day) (days_in_month (pos (year_of day)) (month_of day)) (numbered (year_of day) (month_of day) (day_in_month day)) year.0 year.1 month.0 month.1 date.0 date.1
     ∙ ap (λ (z : ℤ). Ok (record { 0 = z })) (number_is (year_of day) (month_of day) (day_in_month day) day.0 date.0 date.2)
 
+-- the parts of a date in range fit their digits
 pub date_bounds : (day : DayNo) → IsDayInRange day → (2000 ≤ year_of day) × (year_of day ≤ 2099) × (month_of day ≤ 12) × (day_in_month day ≤ 31)
 date_bounds day is =
     let year = year_bounds day is in
@@ -235,6 +238,7 @@ date_bounds day is =
     let most = days_in_month_bounds (pos (year_of day)) (month_of day) in
     (year.0, year.1, month.1, omega (arith, date.1, most.0))
 
+-- the text of a date names the day of its parts
 pub text_of_date : (y m d : ℕ) → y < 10000 → m < 100 → d < 100 → day_of_text (four_digits y ++ 45 ∷ (two_digits m ++ 45 ∷ two_digits d)) ≡ day_of_date y m d
 text_of_date y m d year month day =
     rw (are_digits-four y, are_digits-two m, are_digits-two d) (rw (digits_value-four y year, digits_value-two m month, digits_value-two d day) refl)

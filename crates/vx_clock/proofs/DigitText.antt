@@ -8,6 +8,7 @@ use Rattle.vx_clock.specs.Digits.{are_digits, digits_value}
 abbrev pub digit_at : ℕ → ℕ → ℕ
 digit_at v unit = 48 + v / unit % 10
 
+-- the byte of a digit is one
 pub is_digit : (d : ℕ) → d < 10 → is_ascii_digit (48 + d) ≡ true
 is_digit d small = grind (arith, nat_tests)
 
@@ -15,18 +16,23 @@ is_digit d small = grind (arith, nat_tests)
 pub digit_below : (v unit : ℕ) → is_ascii_digit (48 + v / unit % 10) ≡ true
 digit_below v unit = is_digit (v / unit % 10) (omega arith)
 
+-- two digits are written as digits
 pub are_digits-two : (v : ℕ) → are_digits (digit_at v 10 ∷ digit_at v 1 ∷ []) ≡ true
 are_digits-two v = rw (digit_below v 10, digit_below v 1) refl
 
+-- so are four
 pub are_digits-four : (v : ℕ) → are_digits (digit_at v 1000 ∷ digit_at v 100 ∷ digit_at v 10 ∷ digit_at v 1 ∷ []) ≡ true
 are_digits-four v = rw (digit_below v 1000, digit_below v 100, digit_below v 10, digit_below v 1) refl
 
+-- two digits are worth the number below 100 that they are of
 pub digits_value-two : (v : ℕ) → v < 100 → digits_value (digit_at v 10 ∷ digit_at v 1 ∷ []) ≡ v
 digits_value-two v small = omega arith
 
+-- four digits are worth the number below 10,000 that they are of
 pub digits_value-four : (v : ℕ) → v < 10000 → digits_value (digit_at v 1000 ∷ digit_at v 100 ∷ digit_at v 10 ∷ digit_at v 1 ∷ []) ≡ v
 digits_value-four v small = omega arith
 
+-- eight digits are written as digits
 pub are_digits-eight : (v : ℕ) → are_digits (digit_at v 10000000 ∷ digit_at v 1000000 ∷ digit_at v 100000 ∷ digit_at v 10000 ∷ digit_at v 1000 ∷ digit_at v 100 ∷ digit_at v 10 ∷ digit_at v 1 ∷ []) ≡ true
 are_digits-eight v =
     rw (digit_below v 10000000, digit_below v 1000000, digit_below v 100000, digit_below v 10000, digit_below v 1000, digit_below v 100, digit_below v 10, digit_below v 1) refl
@@ -35,6 +41,7 @@ are_digits-eight v =
 next_digit : (v acc next unit : ℕ) (rest : List ℕ) → next ≡ 10 * acc + v / unit % 10 → fold (λ value digit. 10 * value + (digit - 48)) acc (digit_at v unit ∷ rest) ≡ fold (λ value digit. 10 * value + (digit - 48)) next rest
 next_digit v acc next unit rest e = ap (λ n. fold (λ value digit. 10 * value + (digit - 48)) n rest) (omega arith)
 
+-- eight digits are worth the number below 10^8 that they are of
 pub digits_value-eight : (v : ℕ) → v < 100000000 → digits_value (digit_at v 10000000 ∷ digit_at v 1000000 ∷ digit_at v 100000 ∷ digit_at v 10000 ∷ digit_at v 1000 ∷ digit_at v 100 ∷ digit_at v 10 ∷ digit_at v 1 ∷ []) ≡ v
 digits_value-eight v small =
     let r0 : List ℕ = digit_at v 1 ∷ [] in

@@ -119,6 +119,7 @@ held-set (f ∷ fs) (suc place) file name is lt before =
     let first : is_named name f ≡ false = before 0 (omega arith) in
     rw first (held-set fs place file name is (omega arith) (λ k le. before (suc k) (omega arith)))
 
+-- a file put in the place of one with its name leaves what other names hold
 pub held-set_other : (files : List MemFile) (place : ℕ) (file : MemFile) (name other : List ℕ) → string_bytes file.name ≡ name → name_of_file (slice_get files place) ≡ Some name → other ≢ name → held (files_of (set files place file)) other ≡ held (files_of files) other
 held-set_other [] place file name other is was ne = refl
 held-set_other (f ∷ fs) zero file name other is was ne =
@@ -137,11 +138,13 @@ closed_source old new source seen is within closed =
     let look : List MemFile → Option ℕ → SlotRead = λ files place. record { opened = name_of_file (file_at files place); left = drop source.read (bytes_of_file (file_at files place)); failures = source.failures } in
     ap (look new) e ∙ (sym (ap (look old) e) ∙ is)
 
+-- a sink with no file does not look at the files
 pub closed_sink_at : (old new : List MemFile) (sink : Sink) (seen : SlotWritten) → seen_sink old sink ≡ seen → sink.file ≡ None → seen_sink new sink ≡ seen
 closed_sink_at old new sink seen is e =
     let look : List MemFile → Option ℕ → SlotWritten = λ files place. record { opened = name_of_file (file_at files place); sent = sink.bytes.items; failures = sink.failures } in
     ap (look new) e ∙ (sym (ap (look old) e) ∙ is)
 
+-- nor does a slot that is written and not open
 pub closed_sink : (old new : List MemFile) (sink : Sink) (seen : SlotWritten) → seen_sink old sink ≡ seen → IsPlace old sink.file → is_some seen.opened ≡ false → seen_sink new sink ≡ seen
 closed_sink old new sink seen is within closed =
     closed_sink_at old new sink seen is (closed_place old sink.file within (ap (λ (s : SlotWritten). is_some s.opened) is ∙ closed))

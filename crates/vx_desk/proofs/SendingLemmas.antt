@@ -22,6 +22,7 @@ pub append_known-append : (known : Option (List ℕ)) (xs ys : List ℕ) → app
 append_known-append None xs ys = refl
 append_known-append (Some zs) xs ys = ap Some (append_assoc zs xs ys)
 
+-- one change of what is written after another is one
 pub ChangesWrites-trans : {a b c : Told} → ChangesWrites a b → ChangesWrites b c → ChangesWrites a c
 ChangesWrites-trans p q = record {
   left = q.left ∙ p.left;
@@ -31,6 +32,7 @@ ChangesWrites-trans p q = record {
   reads = q.reads ∙ p.reads;
 }
 
+-- nothing is sent yet
 pub SentSoFar-start : (bytes : List ℕ) (t : Told) → SentSoFar bytes 0 t t
 SentSoFar-start bytes t = record {
   within = omega arith;
@@ -39,10 +41,12 @@ SentSoFar-start bytes t = record {
   rest = record { left = refl; is_open = refl; name = refl; opens = refl; reads = refl };
 }
 
+-- the first bytes, and the next of those behind them, are the first of both counts
 pub take-more : (xs : List ℕ) (n k : ℕ) → take n xs ++ take k (drop n xs) ≡ take (n + k) xs
 take-more xs n k =
     ap (λ ys. take n xs ++ ys) (sym (drop-take n k xs)) ∙ (ap (λ ys. ys ++ drop n (take (n + k) xs)) (sym (take-take n (n + k) xs (omega arith))) ∙ take-append-drop n (take (n + k) xs))
 
+-- one more write that takes some bytes
 pub SentSoFar-more : (bytes : List ℕ) (n k : ℕ) (old mid new : Told) → SentSoFar bytes n old mid → n < length bytes → Writes (drop n bytes) mid new (Ok k) → SentSoFar bytes (n + k) old new
 SentSoFar-more bytes n k old mid new p lt q = record {
   within = let h : k ≤ length (drop n bytes) = q.within in grind (arith, common_steps);

@@ -25,6 +25,7 @@ text_of-append [] line = refl
 text_of-append (l ∷ lines) line =
     ap (λ t. l ++ line_feed ∷ t) (text_of-append lines line) ∙ sym (append_assoc l (line_feed ∷ text_of lines) (line ++ line_feed ∷ []))
 
+-- plain lines and one plain line more are plain lines
 pub all-append : (lines : List (List ℕ)) (line : List ℕ) → list_all is_plain_line lines ≡ true → is_plain_line line ≡ true → list_all is_plain_line (lines ++ line ∷ []) ≡ true
 all-append [] line plain here = rw here refl
 all-append (l ∷ lines) line plain here =
@@ -41,6 +42,7 @@ lines_in-push old new line whole plain here is =
     ∙ lines_in-text_of (lines_in old) (line ++ line_feed ∷ []) plain
     ∙ ap (λ ls. lines_in old ++ ls) (lines_in-line line [] bytes)
 
+-- a text of whole lines and one line more is a text of whole lines
 pub whole-push : (old new line : List ℕ) → old ≡ text_of (lines_in old) → list_all is_plain_line (lines_in old) ≡ true → is_plain_line line ≡ true
     → new ≡ old ++ line ++ line_feed ∷ [] → new ≡ text_of (lines_in new)
 whole-push old new line whole plain here is =
@@ -59,6 +61,7 @@ length-lines_in (b ∷ text) =
     elim (b == line_feed) as (λ t. length (cond t ([] ∷ lines_in text) (onto_first b (lines_in text))) ≤ length (b ∷ text))
     [ true ↦ omega (arith, more) | false ↦ omega (arith, more, length-onto_first b (lines_in text)) ]
 
+-- a field is the one at its place, where there is one
 pub field_at-get : (fields : List (List ℕ)) (i : ℕ) → field_at fields i ≡ slice_get fields i
 unfolding field_at
 field_at-get [] i = refl
@@ -72,6 +75,7 @@ field_at-Some [] i f h = cc
 field_at-Some (g ∷ fields) zero f h = cc
 field_at-Some (g ∷ fields) (suc i) f h = field_at-Some fields i f h
 
+-- a field at a place below the count is there
 pub field_at-None : (fields : List (List ℕ)) (i : ℕ) → i < length fields → None ≡ field_at fields i → ⊥
 unfolding field_at
 field_at-None [] i below h = omega arith

@@ -12,14 +12,17 @@ use Rattle.csv.specs.declared.parser.Action.TheVariants as act
 use Rattle.csv.specs.declared.parser.State.TheVariants as st
 use Rattle.vx_fields.specs.Lines.{line_feed, comma, is_plain, is_plain_line, fields_of_line, text_of}
 
+-- of two tests that both hold the first holds
 pub both_left : (a b : Bool) → (a && b) ≡ true → a ≡ true
 both_left true b h = refl
 both_left false b h = h
 
+-- and the second
 pub both_right : (a b : Bool) → (a && b) ≡ true → b ≡ true
 both_right true b h = h
 both_right false b h = cc
 
+-- a plain byte is no control byte
 pub not_equal : (c k : ℕ) → is_plain c ≡ true → k < 0x20 → (c == k) ≡ false
 not_equal c k h below = grind (arith, nat_tests)
 
@@ -101,6 +104,7 @@ rest_of_more c bs rest false other plain all more fields field =
     ∙ more fields (field ++ c ∷ [])
     ∙ rw other (ap (λ parts. Some (fields ++ parts, st.StartRecord, rest)) (onto-onto_first field c (fields_of_line bs)))
 
+-- the plain bytes behind the first field are read as the other fields of the line
 pub rest_of_line : (bs rest : List ℕ) → list_all is_plain bs ≡ true → ReadsRest rest bs
 unfolding next_record onto
 rest_of_line [] rest plain fields field = rw (append-nil field) refl

@@ -12,14 +12,17 @@ use Rattle.vx_interval.proofs.RoundingLemmas.{floor_of_is, ceiling_of_is}
 
 -- ---- membership by whole numbers
 
+-- a member is at least the low end, by cross multiplication
 pub at_least : (P : ℕ) (x : Ends) (f : Fraction) → IsMember P x f → (x.lo *ℤ pos f.bottom) ≤ℤ (f.top *ℤ unit P)
 unfolding unit
 at_least P x f m = m.above
 
+-- and at most the high end
 pub at_most : (P : ℕ) (x : Ends) (f : Fraction) → IsMember P x f → (f.top *ℤ unit P) ≤ℤ (x.hi *ℤ pos f.bottom)
 unfolding unit
 at_most P x f m = m.below
 
+-- what lies between the ends by cross multiplication is a member
 pub member : (P : ℕ) (x : Ends) (f : Fraction) → 1 ≤ f.bottom → (x.lo *ℤ pos f.bottom) ≤ℤ (f.top *ℤ unit P) → (f.top *ℤ unit P) ≤ℤ (x.hi *ℤ pos f.bottom) → IsMember P x f
 unfolding unit
 member P x f p l h = record { proper = p; above = l; below = h }
@@ -35,10 +38,12 @@ sum_of l1 l2 n1 n2 = rw (is_difference l1, is_difference l2, is_difference n1, i
 top_of : (t1 t2 n1 n2 u : ℤ) → (t1 *ℤ n2 +ℤ t2 *ℤ n1) *ℤ u ≡ (t1 *ℤ u) *ℤ n2 +ℤ (t2 *ℤ u) *ℤ n1
 top_of t1 t2 n1 n2 u = rw (is_difference t1, is_difference t2, is_difference n1, is_difference n2, is_difference u) (simp differences (same_difference _ _ _ _ (omega arith)))
 
+-- a sum of two numbers is at least the sum of their low ends
 pub sum_at_least : (l1 l2 t1 t2 u n1 n2 : ℤ) → pos 0 ≤ℤ n1 → pos 0 ≤ℤ n2 → (l1 *ℤ n1) ≤ℤ (t1 *ℤ u) → (l2 *ℤ n2) ≤ℤ (t2 *ℤ u) → ((l1 +ℤ l2) *ℤ (n1 *ℤ n2)) ≤ℤ ((t1 *ℤ n2 +ℤ t2 *ℤ n1) *ℤ u)
 sum_at_least l1 l2 t1 t2 u n1 n2 p1 p2 h1 h2 =
     omega (arith, ints, mul_mono (l1 *ℤ n1) (t1 *ℤ u) n2 p2 h1, mul_mono (l2 *ℤ n2) (t2 *ℤ u) n1 p1 h2, sum_of l1 l2 n1 n2, top_of t1 t2 n1 n2 u)
 
+-- and at most the sum of their high ends
 pub sum_at_most : (h1 h2 t1 t2 u n1 n2 : ℤ) → pos 0 ≤ℤ n1 → pos 0 ≤ℤ n2 → (t1 *ℤ u) ≤ℤ (h1 *ℤ n1) → (t2 *ℤ u) ≤ℤ (h2 *ℤ n2) → ((t1 *ℤ n2 +ℤ t2 *ℤ n1) *ℤ u) ≤ℤ ((h1 +ℤ h2) *ℤ (n1 *ℤ n2))
 sum_at_most h1 h2 t1 t2 u n1 n2 p1 p2 k1 k2 =
     omega (arith, ints, mul_mono (t1 *ℤ u) (h1 *ℤ n1) n2 p2 k1, mul_mono (t2 *ℤ u) (h2 *ℤ n2) n1 p1 k2, sum_of h1 h2 n1 n2, top_of t1 t2 n1 n2 u)
@@ -49,12 +54,14 @@ difference_of l h n1 n2 = rw (is_difference l, is_difference h, is_difference n1
 top_difference : (t1 t2 n1 n2 u : ℤ) → (t1 *ℤ n2 -ℤ t2 *ℤ n1) *ℤ u ≡ (t1 *ℤ u) *ℤ n2 -ℤ (t2 *ℤ u) *ℤ n1
 top_difference t1 t2 n1 n2 u = rw (is_difference t1, is_difference t2, is_difference n1, is_difference n2, is_difference u) (simp differences (same_difference _ _ _ _ (omega arith)))
 
+-- the sum of two intervals has the sums of their members
 pub add_encloses : (P : ℕ) (x y : Ends) (f g : Fraction) → IsMember P x f → IsMember P y g → IsMember P (add_ends x y) (f +ᶠ g)
 add_encloses P x y f g mf mg =
     member P (add_ends x y) (f +ᶠ g) (mul-pos mf.proper mg.proper)
     (sum_at_least x.lo y.lo f.top g.top (unit P) (pos f.bottom) (pos g.bottom) (natural_nonneg f.bottom) (natural_nonneg g.bottom) (at_least P x f mf) (at_least P y g mg))
     (sum_at_most x.hi y.hi f.top g.top (unit P) (pos f.bottom) (pos g.bottom) (natural_nonneg f.bottom) (natural_nonneg g.bottom) (at_most P x f mf) (at_most P y g mg))
 
+-- the difference of two intervals has the differences of their members
 pub sub_encloses : (P : ℕ) (x y : Ends) (f g : Fraction) → IsMember P x f → IsMember P y g → IsMember P (sub_ends x y) (f -ᶠ g)
 sub_encloses P x y f g mf mg =
     let n1 : ℤ = pos f.bottom in
@@ -71,9 +78,11 @@ sub_encloses P x y f g mf mg =
 
 -- ---- a whole number, a quotient
 
+-- the interval of a whole number has that number
 pub exact_encloses : (P : ℕ) (n : ℤ) → IsMember P (exact_ends P n) (whole n)
 exact_encloses P n = member P (exact_ends P n) (whole n) (omega arith) (omega (arith, ints)) (omega (arith, ints))
 
+-- the interval of a quotient has that quotient
 pub ratio_encloses : (P : ℕ) (num den : ℤ) → pos 0 <ℤ den → IsMember P (ratio_ends P num den) (record { top = num; bottom = nat_abs den })
 ratio_encloses P num (pos d) h =
     let l = floor_of_is (num *ℤ unit P) (pos d) h in
@@ -86,6 +95,7 @@ ratio_encloses P num (negsuc d) h = absurd (omega (arith, ints))
 one_bottom : (z : ℤ) (n : ℕ) → z *ℤ pos (1 * n) ≡ z *ℤ pos n
 one_bottom z n = rw (one-mul n) refl
 
+-- a multiple of an interval has the multiples of its members
 pub scale_encloses : (P : ℕ) (x : Ends) (k : ℤ) (f : Fraction) → IsMember P x f → IsMember P (scale_ends x k) (whole k *ᶠ f)
 scale_encloses P x (pos k) f m =
     let l = mul_mono_left (x.lo *ℤ pos f.bottom) (f.top *ℤ unit P) (pos k) (natural_nonneg k) (at_least P x f m) in
@@ -103,18 +113,22 @@ scale_encloses P x (negsuc k) f m =
 
 -- ---- least and greatest
 
+-- the least of four is at most each of them
 pub least_at_most : (a b c d : ℤ) → (least_of_four a b c d ≤ℤ a) × (least_of_four a b c d ≤ℤ b) × (least_of_four a b c d ≤ℤ c) × (least_of_four a b c d ≤ℤ d)
 unfolding least_of_four
 least_at_most a b c d = (omega (arith, ints, clamps), omega (arith, ints, clamps), omega (arith, ints, clamps), omega (arith, ints, clamps))
 
+-- the greatest of four is at least each of them
 pub greatest_at_least : (a b c d : ℤ) → (a ≤ℤ greatest_of_four a b c d) × (b ≤ℤ greatest_of_four a b c d) × (c ≤ℤ greatest_of_four a b c d) × (d ≤ℤ greatest_of_four a b c d)
 unfolding greatest_of_four
 greatest_at_least a b c d = (omega (arith, ints, clamps), omega (arith, ints, clamps), omega (arith, ints, clamps), omega (arith, ints, clamps))
 
+-- what is at most each of four is at most the least of them
 pub least_above : (a b c d l : ℤ) → l ≤ℤ a → l ≤ℤ b → l ≤ℤ c → l ≤ℤ d → l ≤ℤ least_of_four a b c d
 unfolding least_of_four
 least_above a b c d l p q r s = omega (arith, ints, clamps)
 
+-- what is at least each of four is at least the greatest of them
 pub greatest_below : (a b c d h : ℤ) → a ≤ℤ h → b ≤ℤ h → c ≤ℤ h → d ≤ℤ h → greatest_of_four a b c d ≤ℤ h
 unfolding greatest_of_four
 greatest_below a b c d h p q r s = omega (arith, ints, clamps)
@@ -128,6 +142,7 @@ product_low l least t v u n hu hn below products =
     mul_cancel (l *ℤ n) ((t *ℤ v) *ℤ u) u hu
     (omega (arith, ints, scaled, mul_right_comm l u n, mul_swap t u v u, mul_assoc (t *ℤ v) u u))
 
+-- a product stays below the rounded greatest product of the ends
 pub product_high : (h greatest t v u n : ℤ) → pos 0 <ℤ u → pos 0 ≤ℤ n → greatest ≤ℤ (h *ℤ u) → ((t *ℤ u) *ℤ (v *ℤ u)) ≤ℤ (greatest *ℤ n) → ((t *ℤ v) *ℤ u) ≤ℤ (h *ℤ n)
 product_high h greatest t v u n hu hn above products =
     let scaled = mul_mono greatest (h *ℤ u) n hn above in
@@ -140,6 +155,7 @@ corner_low l a b m n p h = omega (arith, ints, mul_mono l (a *ℤ b) (m *ℤ n) 
 corner_high : (h a b m n : ℤ) → pos 0 ≤ℤ (m *ℤ n) → (a *ℤ b) ≤ℤ h → ((a *ℤ m) *ℤ (b *ℤ n)) ≤ℤ (h *ℤ (m *ℤ n))
 corner_high h a b m n p k = omega (arith, ints, mul_mono (a *ℤ b) h (m *ℤ n) p k, mul_swap a m b n)
 
+-- the product of two intervals has the products of their members
 pub mul_encloses : (P : ℕ) (x y : Ends) (f g : Fraction) → IsMember P x f → IsMember P y g → IsMember P (mul_ends P x y) (f *ᶠ g)
 mul_encloses P x y f g mf mg =
     let n1 : ℤ = pos f.bottom in
@@ -169,6 +185,7 @@ mul_encloses P x y f g mf mg =
 
 -- ---- over a whole divisor, and at another scale
 
+-- an interval over a whole number has the quotients of its members
 pub over_encloses : (P : ℕ) (x : Ends) (den : ℤ) (f : Fraction) → pos 0 <ℤ den → IsMember P x f → IsMember P (over_ends x den) (f /ᶠ nat_abs den)
 over_encloses P x (negsuc d) f h m = absurd (omega (arith, ints))
 over_encloses P x (pos d) f h m =
@@ -183,6 +200,7 @@ over_encloses P x (pos d) f h m =
     (omega (arith, ints, low, l, mul_right_comm (floor_of x.lo (pos d)) (pos d) n, mul_assoc (floor_of x.lo (pos d)) n (pos d)))
     (omega (arith, ints, high, k, mul_right_comm (ceiling_of x.hi (pos d)) (pos d) n, mul_assoc (ceiling_of x.hi (pos d)) n (pos d)))
 
+-- an interval at another scale has the same members and more
 pub rescale_encloses : (P R : ℕ) (x : Ends) (f : Fraction) → IsMember P x f → IsMember R (rescale_ends P R x) f
 rescale_encloses P R x f m =
     let n : ℤ = pos f.bottom in

@@ -14,6 +14,7 @@ use Rattle.vx_interval.proofs.Squares.{square_above, square_below, least_if_posi
 
 -- ---- members
 
+-- a member of an interval is one of each wider interval
 pub members_stay : MembersStayInWider
 members_stay P x y f i m =
     let n : ℤ = pos f.bottom in
@@ -24,22 +25,26 @@ members_stay P x y f i m =
     (omega (arith, ints, low, mul_mono y.lo x.lo n p i.low))
     (omega (arith, ints, high, mul_mono x.hi y.hi n p i.high))
 
+-- a fraction of equal value is a member too
 pub equal_values : EqualValuesAreMembers
 equal_values P x f g p e m =
     record { proper = p; above = ≤ᶠ_trans (units P x.lo) f g m.proper m.above (≃ᶠ-≤ᶠ f g e); below = ≤ᶠ_trans g f (units P x.hi) m.proper (≃ᶠ-≤ᶠ g f (sym e)) m.below }
 
 -- ---- sums, differences, multiples
 
+-- sums of narrower intervals lie inside the sums of wider ones
 pub sums : SumsLieInside
 sums x x' y y' i j =
     let a = i.low in let b = i.high in let c = j.low in let d = j.high in
     record { low = omega (arith, ints, a, c); high = omega (arith, ints, b, d) }
 
+-- so do differences
 pub differences : DifferencesLieInside
 differences x x' y y' i j =
     let a = i.low in let b = i.high in let c = j.low in let d = j.high in
     record { low = omega (arith, ints, a, d); high = omega (arith, ints, b, c) }
 
+-- and multiples
 pub multiples : MultiplesLieInside
 multiples x x' (pos k) i =
     let p : pos 0 ≤ℤ pos k = omega (arith, ints) in
@@ -54,12 +59,14 @@ rounded : (a b c d den : ℤ) → pos 0 <ℤ den → c ≤ℤ a → b ≤ℤ d �
 rounded a b c d den p h k =
     record { low = floor_mono c a den _ _ p h (floor_of_is c den p) (floor_of_is a den p); high = ceiling_mono b d den _ _ p k (ceiling_of_is b den p) (ceiling_of_is d den p) }
 
+-- and quotients
 pub quotients : QuotientsLieInside
 quotients x x' den p i = rounded x.lo x.hi x'.lo x'.hi den p i.low i.high
 
 unit_nonneg : (R : ℕ) → pos 0 ≤ℤ unit R
 unit_nonneg R = omega (arith, ints, unit_positive R)
 
+-- and intervals at another scale
 pub rescaled : RescaledLieInside
 rescaled P R x x' i =
     rounded (x.lo *ℤ unit R) (x.hi *ℤ unit R) (x'.lo *ℤ unit R) (x'.hi *ℤ unit R) (unit P) (unit_positive P)
@@ -83,6 +90,7 @@ low_reaches x x' o i = let b = i.high in omega (arith, ints, o, b)
 high_reaches : (x x' : Ends) → IsOrdered x → IsInside x x' → x'.lo ≤ℤ x.hi
 high_reaches x x' o i = let b = i.low in omega (arith, ints, o, b)
 
+-- and products
 pub products : ProductsLieInside
 products P x x' y y' o q i j =
     let a = low_reaches x x' o i in
@@ -124,6 +132,7 @@ least_squares x x' o i =
     (λ q. least_if_negative x (least_square x') q low high)
     (λ q. let zero = least_across_zero x' (omega (arith, ints, a, p)) (omega (arith, ints, b, q)) in omega (arith, ints, zero, least_nonneg x)))
 
+-- and squares
 pub squares : SquaresLieInside
 squares P x x' o i =
     rounded (least_square x) (greatest_square x) (least_square x') (greatest_square x') (unit P) (unit_positive P)

@@ -25,23 +25,28 @@ cast_small z = to_z w64 (of_z w64 z)
 
 -- ---- numbers that fit the type
 
+-- a number of at most 2^126 in absolute value has room in 128 bits
 pub fits_within : (z : ℤ) → nat_abs z ≤ 2 ^ 126 → FitsSigned w128 z
 fits_within z h = fits_signed_from_abs w128 z (lt_of_le_of_lt h (lit< tt))
 
+-- so has an end in range
 pub fits_in_range : (z : ℤ) → neg_ℤ (pos (2 ^ 110)) ≤ℤ z → z ≤ℤ pos (2 ^ 110) → FitsSigned w128 z
 fits_in_range z low high = fits_within z (le_trans (within z (2 ^ 110) high (omega (arith, ints))) (lit≤ tt))
 
 -- ---- the unit
 
+-- the unit of each scale is at least 2^40
 pub unit_at_least : (P : ℕ) → IsScale P → pos (2 ^ 40) ≤ℤ unit P
 unfolding unit
 unit_at_least P h = let m : 2 ^ 40 ≤ 2 ^ P = pow_mono h.0 in omega (arith, ints)
 
 -- ---- rounded ends
 
+-- rounded quotients of the same numbers are the same
 pub rounded_same : (a b d a' b' d' : ℤ) → a ≡ a' → b ≡ b' → d ≡ d' → rounded_ends a b d ≡ rounded_ends a' b' d'
 rounded_same a b d a' b' d' p q r = same_ends _ _ (ap₂ floor_of p r) (ap₂ ceiling_of q r)
 
+-- rounded down is at most rounded up
 pub rounded_ordered : (a b d : ℤ) → pos 0 <ℤ d → a ≤ℤ b → floor_of a d ≤ℤ ceiling_of b d
 rounded_ordered a b d h l =
     let f = floor_of_is a d h in
@@ -50,12 +55,14 @@ rounded_ordered a b d h l =
     let high = c.at_least in
     mul_cancel (floor_of a d) (ceiling_of b d) d h (omega (arith, ints))
 
+-- quotients of dividends in range are in range
 pub rounded_in_range : (a b d : ℤ) → pos 0 <ℤ d → a ≤ℤ b → neg_ℤ (pos (2 ^ 110)) ≤ℤ a → b ≤ℤ pos (2 ^ 110) → IsInRange (rounded_ends a b d)
 rounded_in_range a b d h l low high = record {
   low = (floor_within_dividend a d (floor_of a d) (pos (2 ^ 110)) h low (omega (arith, ints)) (floor_of_is a d h)).0;
   high = (ceiling_within_dividend b d (ceiling_of b d) (pos (2 ^ 110)) h (omega (arith, ints)) high (ceiling_of_is b d h)).1;
 }
 
+-- quotients by a unit of dividends within 2^126 are in range
 pub rounded_over_unit : (a b d : ℤ) → pos (2 ^ 40) ≤ℤ d → a ≤ℤ b → neg_ℤ (pos (2 ^ 126)) ≤ℤ a → b ≤ℤ pos (2 ^ 126) → IsInRange (rounded_ends a b d)
 rounded_over_unit a b d h l low high =
     let p : pos 0 <ℤ d = omega (arith, ints) in
@@ -68,18 +75,23 @@ rounded_over_unit a b d h l low high =
 
 -- ---- products of ends
 
+-- factors within bounds have a product within 2^126
 pub product_small : (a b : ℤ) (m n : ℕ) → nat_abs a ≤ m → nat_abs b ≤ n → m * n ≤ 2 ^ 126 → nat_abs a * nat_abs b ≤ 2 ^ 126
 product_small a b m n p q h = le_trans (mul-le-mul p q) h
 
+-- the low end is within the interval's greatest absolute value
 pub low_of : (x : Ends) (a : ℤ) → a ≡ x.lo → nat_abs a ≤ magnitude x
 low_of x a e = let P : ℤ → Type 0 = λ z. nat_abs z ≤ magnitude x in subst P (sym e) (magnitude_above x).0
 
+-- and so is the high end
 pub high_of : (x : Ends) (a : ℤ) → a ≡ x.hi → nat_abs a ≤ magnitude x
 high_of x a e = let P : ℤ → Type 0 = λ z. nat_abs z ≤ magnitude x in subst P (sym e) (magnitude_above x).1
 
+-- products of the same factors are the same
 pub products_same : (a b a' b' : ℤ) → a ≡ a' → b ≡ b' → a *ℤ b ≡ a' *ℤ b'
 products_same a b a' b' p q = ap₂ (λ (x y : ℤ). x *ℤ y) p q
 
+-- the bound on a product holds for the same factors
 pub product_small_same : (a b a' b' : ℤ) → a' ≡ a → b' ≡ b → nat_abs a * nat_abs b ≤ 2 ^ 126 → nat_abs a' * nat_abs b' ≤ 2 ^ 126
 product_small_same a b a' b' p q h =
     let P : ℕ → Type 0 = λ z. z ≤ 2 ^ 126 in
@@ -92,6 +104,7 @@ product_range a b m n p q h =
     let r = from_within (a *ℤ b) (2 ^ 126) small in
     (r.1, r.0)
 
+-- the least product of the ends is at least -2^126
 pub least_product_range : (x y : Ends) → magnitude x * magnitude y ≤ 2 ^ 126 → neg_ℤ (pos (2 ^ 126)) ≤ℤ least_product x y
 least_product_range x y h =
     let a = magnitude_above x in
@@ -100,6 +113,7 @@ least_product_range x y h =
     let n : ℕ = magnitude y in
     least_above _ _ _ _ _ (product_range x.lo y.lo m n a.0 b.0 h).0 (product_range x.lo y.hi m n a.0 b.1 h).0 (product_range x.hi y.lo m n a.1 b.0 h).0 (product_range x.hi y.hi m n a.1 b.1 h).0
 
+-- the greatest product of the ends is at most 2^126
 pub greatest_product_range : (x y : Ends) → magnitude x * magnitude y ≤ 2 ^ 126 → greatest_product x y ≤ℤ pos (2 ^ 126)
 greatest_product_range x y h =
     let a = magnitude_above x in
@@ -108,12 +122,14 @@ greatest_product_range x y h =
     let n : ℕ = magnitude y in
     greatest_below _ _ _ _ _ (product_range x.lo y.lo m n a.0 b.0 h).1 (product_range x.lo y.hi m n a.0 b.1 h).1 (product_range x.hi y.lo m n a.1 b.0 h).1 (product_range x.hi y.hi m n a.1 b.1 h).1
 
+-- the least product is at most the greatest
 pub least_at_most_greatest : (x y : Ends) → least_product x y ≤ℤ greatest_product x y
 least_at_most_greatest x y =
     let a = least_at_most (x.lo *ℤ y.lo) (x.lo *ℤ y.hi) (x.hi *ℤ y.lo) (x.hi *ℤ y.hi) in
     let b = greatest_at_least (x.lo *ℤ y.lo) (x.lo *ℤ y.hi) (x.hi *ℤ y.lo) (x.hi *ℤ y.hi) in
     omega (arith, ints)
 
+-- the greatest square of the ends is at most 2^126
 pub greatest_square_range : (x : Ends) → magnitude x * magnitude x ≤ 2 ^ 126 → greatest_square x ≤ℤ pos (2 ^ 126)
 greatest_square_range x h =
     let a = magnitude_above x in
@@ -132,20 +148,24 @@ rounded_is low high den low' high' den' lo hi h p q r f c =
 
 -- ---- whole factors
 
+-- a negative factor exchanges the ends
 pub scale_ends_negative : (x : Ends) (k : ℤ) → k <ℤ pos 0 → scale_ends x k ≡ record { lo = k *ℤ x.hi; hi = k *ℤ x.lo }
 scale_ends_negative x (pos k) h = absurd (omega (arith, ints))
 scale_ends_negative x (negsuc k) h = refl
 
+-- another factor keeps their order
 pub scale_ends_nonneg : (x : Ends) (k : ℤ) → pos 0 ≤ℤ k → scale_ends x k ≡ record { lo = k *ℤ x.lo; hi = k *ℤ x.hi }
 scale_ends_nonneg x (pos k) h = refl
 scale_ends_nonneg x (negsuc k) h = absurd (omega (arith, ints))
 
+-- a multiple in range by a negative factor: its ends are in order and within 2^110
 pub scale_range_negative : (x : Ends) (k : ℤ) → k <ℤ pos 0 → x.lo ≤ℤ x.hi → IsInRange (scale_ends x k)
     → (neg_ℤ (pos (2 ^ 110)) ≤ℤ (k *ℤ x.hi)) × ((k *ℤ x.hi) ≤ℤ (k *ℤ x.lo)) × ((k *ℤ x.lo) ≤ℤ pos (2 ^ 110))
 scale_range_negative x k h l r =
     let s = subst IsInRange (scale_ends_negative x k h) r in
     (s.low, mul_anti_left x.lo x.hi k (omega (arith, ints)) l, s.high)
 
+-- the same by another factor
 pub scale_range_nonneg : (x : Ends) (k : ℤ) → pos 0 ≤ℤ k → x.lo ≤ℤ x.hi → IsInRange (scale_ends x k)
     → (neg_ℤ (pos (2 ^ 110)) ≤ℤ (k *ℤ x.lo)) × ((k *ℤ x.lo) ≤ℤ (k *ℤ x.hi)) × ((k *ℤ x.hi) ≤ℤ pos (2 ^ 110))
 scale_range_nonneg x k h l r =
@@ -154,6 +174,7 @@ scale_range_nonneg x k h l r =
 
 -- ---- a quotient's dividend
 
+-- a number that the unit of its scale multiplies stays within 2^126
 pub unit_bound : (P : ℕ) → IsScale P → 2 ^ (126 - P) * nat_abs (unit P) ≤ 2 ^ 126
 unfolding unit
 unit_bound P h =
@@ -168,9 +189,11 @@ unit_split : (P k : ℕ) → unit (P + k) ≡ unit k *ℤ unit P
 unfolding unit
 unit_split P k = ap pos (pow-add 2 P k ∙ omega arith)
 
+-- the unit of a finer scale is a multiple of the unit of a coarser one
 pub unit_up : (P R : ℕ) → P ≤ R → unit R ≡ unit (R - P) *ℤ unit P
 unit_up P R h = let e : R ≡ P + (R - P) = omega arith in ap unit e ∙ unit_split P (R - P)
 
+-- to a finer scale the ends are multiplied
 pub rescale_up : (P R : ℕ) (x : Ends) → P ≤ R → rescale_ends P R x ≡ record { lo = x.lo *ℤ unit (R - P); hi = x.hi *ℤ unit (R - P) }
 rescale_up P R x h =
     let u = unit_up P R h in
@@ -183,6 +206,7 @@ rescale_up P R x h =
     (sym (floor_found (x.lo *ℤ unit R) (unit P) (x.lo *ℤ unit (R - P)) p (subst F (sym low) (floor_exact (x.lo *ℤ unit (R - P)) (unit P) p))))
     (sym (ceiling_found (x.hi *ℤ unit R) (unit P) (x.hi *ℤ unit (R - P)) p (subst C (sym high) (ceiling_exact (x.hi *ℤ unit (R - P)) (unit P) p))))
 
+-- to a coarser scale they are divided and rounded outwards
 pub rescale_down : (P R : ℕ) (x : Ends) → R ≤ P → rescale_ends P R x ≡ rounded_ends x.lo x.hi (unit (P - R))
 rescale_down P R x h =
     let u : unit P ≡ unit R *ℤ unit (P - R) = unit_up R P h ∙ mul_comm (unit (P - R)) (unit R) in
@@ -200,6 +224,7 @@ rescale_down P R x h =
     subst F (mul_comm (unit R) x.hi) (subst G (sym u) (ceiling_scaled (unit R) x.hi k (ceiling_of x.hi k) q (ceiling_of_is x.hi k s)))) in
     same_ends _ _ (sym (floor_found (x.lo *ℤ unit R) (unit P) (floor_of x.lo k) p floor)) (sym (ceiling_found (x.hi *ℤ unit R) (unit P) (ceiling_of x.hi k) p ceiling))
 
+-- ends in range at a finer scale are in order and within 2^110
 pub rescale_up_range : (P R : ℕ) (x : Ends) → P ≤ R → x.lo ≤ℤ x.hi → IsInRange (rescale_ends P R x)
     → (neg_ℤ (pos (2 ^ 110)) ≤ℤ (x.lo *ℤ unit (R - P))) × ((x.lo *ℤ unit (R - P)) ≤ℤ (x.hi *ℤ unit (R - P))) × ((x.hi *ℤ unit (R - P)) ≤ℤ pos (2 ^ 110))
 rescale_up_range P R x h l r =
@@ -213,14 +238,17 @@ range_small a b low high =
     let P : ℕ → Type 0 = λ z. z ≤ 2 ^ 126 in
     subst P (unsigned_abs-mul a b) (le_trans (within (a *ℤ b) (2 ^ 110) high (omega (arith, ints))) (lit≤ tt))
 
+-- the dividend of a quotient stays within 2^126
 pub ratio_small : (P : ℕ) (num : ℤ) → IsScale P → nat_abs num ≤ 2 ^ (126 - P) → nat_abs num * nat_abs (unit P) ≤ 2 ^ 126
 ratio_small P num h small = le_trans (mul-le-mul small (le_refl (nat_abs (unit P)))) (unit_bound P h)
 
 -- ---- the least and the greatest product, as the code finds them
 
+-- a product of given factors, by the numbers that they are
 pub same_product : (a b a' b' p : ℤ) → a ≡ a' → b ≡ b' → p ≡ a *ℤ b → p ≡ a' *ℤ b'
 same_product a b a' b' p q r e = e ∙ products_same a b a' b' q r
 
+-- the least of four computed products is the least product of the ends
 pub least_product_is : (x y : Ends) (a b c d p q r s : ℤ) → a ≡ x.lo → b ≡ x.hi → c ≡ y.lo → d ≡ y.hi
     → p ≡ a *ℤ c → q ≡ a *ℤ d → r ≡ b *ℤ c → s ≡ b *ℤ d → least_of_four p q r s ≡ least_product x y
 least_product_is x y a b c d p q r s ea eb ec ed ep eq er es =
@@ -230,6 +258,7 @@ least_product_is x y a b c d p q r s ea eb ec ed ep eq er es =
     let fs = same_product b d x.hi y.hi s eb ed es in
     cc
 
+-- the greatest of them is the greatest product
 pub greatest_product_is : (x y : Ends) (a b c d p q r s : ℤ) → a ≡ x.lo → b ≡ x.hi → c ≡ y.lo → d ≡ y.hi
     → p ≡ a *ℤ c → q ≡ a *ℤ d → r ≡ b *ℤ c → s ≡ b *ℤ d → greatest_of_four p q r s ≡ greatest_product x y
 greatest_product_is x y a b c d p q r s ea eb ec ed ep eq er es =
@@ -239,23 +268,29 @@ greatest_product_is x y a b c d p q r s ea eb ec ed ep eq er es =
     let fs = same_product b d x.hi y.hi s eb ed es in
     cc
 
+-- the square of an end stays within 2^126
 pub square_range : (x : Ends) (a : ℤ) → nat_abs a ≤ magnitude x → magnitude x * magnitude x ≤ 2 ^ 126 → nat_abs a * nat_abs a ≤ 2 ^ 126
 square_range x a h small = product_small a a (magnitude x) (magnitude x) h h small
 
+-- the least square depends on the ends alone
 pub least_square_same : (x : Ends) (a b : ℤ) → a ≡ x.lo → b ≡ x.hi → least_square (record { lo = a; hi = b }) ≡ least_square x
 least_square_same x a b p q = ap least_square (same_ends _ _ p q)
 
+-- and so does the greatest
 pub greatest_square_same : (x : Ends) (a b : ℤ) → a ≡ x.lo → b ≡ x.hi → greatest_square (record { lo = a; hi = b }) ≡ greatest_square x
 greatest_square_same x a b p q = ap greatest_square (same_ends _ _ p q)
 
+-- the least square is at most the greatest
 pub square_ordered : (x : Ends) → least_square x ≤ℤ greatest_square x
 square_ordered x = let a = least_is_least x in let b = greatest_is_greatest x in omega (arith, ints)
 
 -- ---- ends that pass through a call
 
+-- a number with room in 128 bits keeps its value there
 pub cast_is : (z z' : ℤ) → mag z < 2 ^ 127 → z ≡ z' → cast z ≡ z'
 cast_is z z' f e = to_z-of_z {w = w128} (record { sfits = f }) ∙ e
 
+-- two ends that keep their values are in range as they were
 pub pair_in_range : (a b a' b' : ℤ) → mag a < 2 ^ 127 → mag b < 2 ^ 127 → a ≡ a' → b ≡ b'
     → (neg_ℤ (pos (2 ^ 110)) ≤ℤ a') × (a' ≤ℤ b') × (b' ≤ℤ pos (2 ^ 110))
     → (cast a ≤ℤ cast b) × IsInRange (record { lo = cast a; hi = cast b })

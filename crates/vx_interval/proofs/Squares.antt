@@ -11,10 +11,12 @@ use Rattle.vx_interval.proofs.EndsLemmas.{unit_positive}
 use Rattle.vx_interval.proofs.RoundingLemmas.{floor_of_is, ceiling_of_is}
 use Rattle.vx_interval.proofs.Enclosures.{at_least, at_most, member, product_low, product_high}
 
+-- an interval with 0 in it has the least square 0
 pub least_across_zero : (x : Ends) → x.lo ≤ℤ pos 0 → pos 0 ≤ℤ x.hi → least_square x ≡ pos 0
 unfolding least_square
 least_across_zero x low high = grind (arith, ints)
 
+-- the least square is at most the square of each end
 pub least_is_least : (x : Ends) → (least_square x ≤ℤ (x.lo *ℤ x.lo)) × (least_square x ≤ℤ (x.hi *ℤ x.hi))
 unfolding least_square
 least_is_least x =
@@ -22,18 +24,22 @@ least_is_least x =
     let b = square_nonneg x.hi in
     (grind (arith, ints, clamps), grind (arith, ints, clamps))
 
+-- the greatest square is at least the square of each end
 pub greatest_is_greatest : (x : Ends) → ((x.lo *ℤ x.lo) ≤ℤ greatest_square x) × ((x.hi *ℤ x.hi) ≤ℤ greatest_square x)
 unfolding greatest_square
 greatest_is_greatest x = (omega (arith, ints, clamps), omega (arith, ints, clamps))
 
+-- above 0 what is at most both squares is at most the least one
 pub least_if_positive : (x : Ends) (l : ℤ) → pos 0 <ℤ x.lo → l ≤ℤ (x.lo *ℤ x.lo) → l ≤ℤ (x.hi *ℤ x.hi) → l ≤ℤ least_square x
 unfolding least_square
 least_if_positive x l h a b = grind (arith, ints, clamps)
 
+-- and below 0
 pub least_if_negative : (x : Ends) (l : ℤ) → x.hi <ℤ pos 0 → l ≤ℤ (x.lo *ℤ x.lo) → l ≤ℤ (x.hi *ℤ x.hi) → l ≤ℤ least_square x
 unfolding least_square
 least_if_negative x l h a b = grind (arith, ints, clamps)
 
+-- what is at least both squares is at least the greatest one
 pub greatest_is_at_most : (x : Ends) (h : ℤ) → (x.lo *ℤ x.lo) ≤ℤ h → (x.hi *ℤ x.hi) ≤ℤ h → greatest_square x ≤ℤ h
 unfolding greatest_square
 greatest_is_at_most x h a b = omega (arith, ints, clamps)
@@ -65,6 +71,7 @@ square_above x n X hn low high =
     let none : pos 0 *ℤ (n *ℤ n) ≡ pos 0 = omega (arith, ints) in
     rw zero (omega (arith, ints, square_nonneg X, none))))
 
+-- the square of a member is at most the greatest square
 pub square_below : (x : Ends) (n X : ℤ) → (x.lo *ℤ n) ≤ℤ X → X ≤ℤ (x.hi *ℤ n) → (X *ℤ X) ≤ℤ (greatest_square x *ℤ (n *ℤ n))
 square_below x n X low high =
     let nn = square_nonneg n in
@@ -75,6 +82,7 @@ square_below x n X low high =
     (λ p. omega (arith, ints, at_lo, square_anti (x.lo *ℤ n) X (omega (arith, ints)) low, scaled_square x.lo n))
     (λ p. omega (arith, ints, at_hi, square_mono X (x.hi *ℤ n) p high, scaled_square x.hi n))
 
+-- the square of an interval has the squares of its members
 pub square_encloses : (P : ℕ) (x : Ends) (f : Fraction) → IsMember P x f → IsMember P (square_ends P x) (f *ᶠ f)
 square_encloses P x f m =
     let n : ℤ = pos f.bottom in
@@ -88,6 +96,7 @@ square_encloses P x f m =
     (product_low (floor_of (least_square x) u) (least_square x) f.top f.top u (n *ℤ n) hu p floor.at_most (square_above x n (f.top *ℤ u) hn (at_least P x f m) (at_most P x f m)))
     (product_high (ceiling_of (greatest_square x) u) (greatest_square x) f.top f.top u (n *ℤ n) hu p ceiling.at_least (square_below x n (f.top *ℤ u) (at_least P x f m) (at_most P x f m)))
 
+-- the least square is not negative
 pub least_nonneg : (x : Ends) → pos 0 ≤ℤ least_square x
 unfolding least_square
 least_nonneg x =
@@ -103,6 +112,7 @@ minimum_if_negative : (x : Ends) → x.hi <ℤ pos 0 → least_square x ≡ int_
 unfolding least_square
 minimum_if_negative x p = grind (arith, ints)
 
+-- without 0 in the interval it is the lesser square of the two ends
 pub least_not_across : (x : Ends) → (x.lo ≤ℤ pos 0 → pos 0 ≤ℤ x.hi → ⊥) → least_square x ≡ int_min (x.lo *ℤ x.lo) (x.hi *ℤ x.hi)
 least_not_across x h =
     by_lt_z (pos 0) x.lo (minimum_if_positive x) (λ p. by_lt_z x.hi (pos 0) (minimum_if_negative x) (λ q. absurd (h p q)))

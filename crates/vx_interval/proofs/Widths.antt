@@ -11,18 +11,22 @@ use Rattle.vx_interval.proofs.RoundingLemmas.{floor_of_is, ceiling_of_is}
 use Rattle.vx_interval.proofs.Enclosures.{least_above, greatest_below}
 use Rattle.vx_interval.proofs.Squares.{least_across_zero, least_if_positive, least_if_negative, greatest_is_at_most}
 
+-- a number between -m and m is at most m in absolute value
 pub within : (z : ℤ) (m : ℕ) → z ≤ℤ pos m → neg_ℤ z ≤ℤ pos m → nat_abs z ≤ m
 within (pos n) m h k = omega (arith, ints)
 within (negsuc n) m h k = omega (arith, ints)
 
+-- and the other way round
 pub from_within : (z : ℤ) (m : ℕ) → nat_abs z ≤ m → (z ≤ℤ pos m) × (neg_ℤ (pos m) ≤ℤ z)
 from_within (pos n) m h = (omega (arith, ints), omega (arith, ints))
 from_within (negsuc n) m h = (omega (arith, ints), omega (arith, ints))
 
+-- both ends are within the interval's greatest absolute value
 pub magnitude_above : (x : Ends) → (nat_abs x.lo ≤ magnitude x) × (nat_abs x.hi ≤ magnitude x)
 unfolding magnitude
 magnitude_above x = (omega arith, omega arith)
 
+-- the width of ordered ends is not negative
 pub width_is : (x : Ends) → x.lo ≤ℤ x.hi → pos (nat_abs (width x)) ≡ width x
 width_is x h = positive (width x) (omega (arith, ints))
   where
@@ -32,27 +36,33 @@ width_is x h = positive (width x) (omega (arith, ints))
 
 -- ---- sums, differences and whole factors
 
+-- the width of a sum is the sum of the widths
 pub add_width : (x y : Ends) → width (add_ends x y) ≡ width x +ℤ width y
 add_width x y = omega (arith, ints)
 
+-- and so is the width of a difference
 pub sub_width : (x y : Ends) → width (sub_ends x y) ≡ width x +ℤ width y
 sub_width x y = omega (arith, ints)
 
+-- the width of a multiple is that multiple of the width
 pub scale_width : (x : Ends) (k : ℤ) → width (scale_ends x k) ≡ pos (nat_abs k) *ℤ width x
 scale_width x (pos k) = sym (mul_sub (pos k) x.hi x.lo)
 scale_width x (negsuc k) = omega (arith, ints, neg_mul (pos (suc k)) x.hi, neg_mul (pos (suc k)) x.lo, mul_sub (pos (suc k)) x.hi x.lo)
 
 -- ---- quotients
 
+-- the interval of a quotient is at most one unit wide
 pub ratio_width : (P : ℕ) (num den : ℤ) → pos 0 <ℤ den → width (ratio_ends P num den) ≤ℤ pos 1
 ratio_width P num den h =
     let a : ℤ = num *ℤ unit P in
     omega (arith, ints, quotient_one a den (floor_of a den) (ceiling_of a den) h (floor_of_is a den h) (ceiling_of_is a den h))
 
+-- an interval over a number is less than two units wider than its width over that number
 pub over_width : (x : Ends) (den : ℤ) → pos 0 <ℤ den → (width (over_ends x den) *ℤ den) <ℤ (width x +ℤ (den +ℤ den))
 over_width x den h =
     quotient_gap x.lo x.hi den (width x) (floor_of x.lo den) (ceiling_of x.hi den) (omega (arith, ints)) (floor_of_is x.lo den h) (ceiling_of_is x.hi den h)
 
+-- so is an interval at another scale
 pub rescale_width : (P R : ℕ) (x : Ends) → (width (rescale_ends P R x) *ℤ unit P) <ℤ (width x *ℤ unit R +ℤ (unit P +ℤ unit P))
 rescale_width P R x =
     let h = unit_positive P in
@@ -112,6 +122,7 @@ product_spread x y hx hy =
 spread_is : (m n v w : ℕ) (x y : ℤ) → pos v ≡ x → pos w ≡ y → pos (m * w + n * v) ≡ pos m *ℤ y +ℤ pos n *ℤ x
 spread_is m n v w x y p q = rw (← p, ← q) (omega (arith, ints))
 
+-- how wide a product is at most, by the widths of its factors
 pub mul_width : (P : ℕ) (x y : Ends) → x.lo ≤ℤ x.hi → y.lo ≤ℤ y.hi
     → (width (mul_ends P x y) *ℤ unit P) <ℤ ((pos (magnitude x) *ℤ width y +ℤ pos (magnitude y) *ℤ width x) +ℤ (unit P +ℤ unit P))
 mul_width P x y hx hy =
@@ -158,6 +169,7 @@ square_spread x hx =
 twice_is : (m w : ℕ) (y : ℤ) → pos w ≡ y → pos (2 * m * w) ≡ pos 2 *ℤ (pos m *ℤ y)
 twice_is m w y p = rw (← p) (omega (arith, ints))
 
+-- how wide a square is at most
 pub square_width : (P : ℕ) (x : Ends) → x.lo ≤ℤ x.hi → (width (square_ends P x) *ℤ unit P) <ℤ (pos 2 *ℤ (pos (magnitude x) *ℤ width x) +ℤ (unit P +ℤ unit P))
 square_width P x hx =
     let h = unit_positive P in

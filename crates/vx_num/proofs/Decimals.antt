@@ -19,6 +19,7 @@ use Rattle.vx_num.specs.declared.fault.DecimalFault.TheVariants.{Empty, NotDigit
 by_lt : {P : Type 0} (m n : ℕ) → (m < n → P) → (n ≤ m → P) → P
 by_lt m n f g = ⊎_elim f g (cases_lt m n)
 
+-- a digit is no dot
 pub digit_no_dot : (b : ℕ) → is_digit b ≡ true → is_dot b ≡ false
 digit_no_dot b h = grind (arith, nat_tests)
 
@@ -30,6 +31,7 @@ one_more n x xs = let e : 1 + n ≡ suc n = omega arith in rw e
 one_more_taken : {A : Type 0} (n : ℕ) (x : A) (xs : List A) → take (1 + n) (x ∷ xs) ≡ x ∷ take n xs
 one_more_taken n x xs = let e : 1 + n ≡ suc n = omega arith in rw e
 
+-- what may follow a first digit is settled behind the digits at the front
 pub rest_after_digits : (xs : List ℕ) → is_decimal_rest xs ≡ is_decimal_rest (drop (prefix_len is_digit xs) xs)
 rest_after_digits [] = refl
 rest_after_digits (x ∷ xs) = by (is_digit x) refl (rest_after_digits xs)
@@ -38,6 +40,7 @@ rest_after_digits (x ∷ xs) = by (is_digit x) refl (rest_after_digits xs)
     by true e r = let d = digit_no_dot x e in rw (e, d, one_more (prefix_len is_digit xs) x xs) r
     by false e r = let z : 0 ≡ prefix_len is_digit (x ∷ xs) = rw e in ap (λ n. is_decimal_rest (drop n (x ∷ xs))) z
 
+-- and so are the places
 pub places_after_digits : (xs : List ℕ) → places_of xs ≡ places_of (drop (prefix_len is_digit xs) xs)
 places_after_digits [] = refl
 places_after_digits (x ∷ xs) = by (is_digit x) refl (places_after_digits xs)
@@ -46,6 +49,7 @@ places_after_digits (x ∷ xs) = by (is_digit x) refl (places_after_digits xs)
     by true e r = let d = digit_no_dot x e in rw (e, d, one_more (prefix_len is_digit xs) x xs) r
     by false e r = rw e
 
+-- the digits of a text are those at its front and those behind them
 pub digits_after_digits : (xs : List ℕ) → filter is_digit xs ≡ take (prefix_len is_digit xs) xs ++ filter is_digit (drop (prefix_len is_digit xs) xs)
 digits_after_digits [] = refl
 digits_after_digits (x ∷ xs) = by (is_digit x) refl (digits_after_digits xs)
@@ -63,6 +67,7 @@ decimal_from_front (x ∷ xs) h = by (is_digit x) refl
     by true e = rw (e, one_more (prefix_len is_digit xs) x xs) (rest_after_digits xs)
     by false e = absurd (let f = rw e at h in omega arith)
 
+-- a text with no digit at its front is no decimal
 pub no_decimal_without_digit : (xs : List ℕ) → prefix_len is_digit xs ≡ 0 → is_decimal xs ≡ false
 no_decimal_without_digit [] h = refl
 no_decimal_without_digit (x ∷ xs) h = by (is_digit x) refl
@@ -73,6 +78,7 @@ no_decimal_without_digit (x ∷ xs) h = by (is_digit x) refl
 
 -- ---- digits alone
 
+-- a text that is all its front digits has digits alone
 pub all_from_run : (xs : List ℕ) → prefix_len is_digit xs ≡ length xs → list_all is_digit xs ≡ true
 all_from_run [] h = refl
 all_from_run (x ∷ xs) h = by (is_digit x) refl (λ k. all_from_run xs k)
@@ -81,6 +87,7 @@ all_from_run (x ∷ xs) h = by (is_digit x) refl (λ k. all_from_run xs k)
     by true e r = let f = rw e at h in rw e (r (omega arith))
     by false e r = absurd (let f = rw e at h in omega arith)
 
+-- a text that is longer has another byte
 pub not_all_from_run : (xs : List ℕ) → prefix_len is_digit xs < length xs → list_all is_digit xs ≡ false
 not_all_from_run [] h = absurd (omega arith)
 not_all_from_run (x ∷ xs) h = by (is_digit x) refl (λ k. not_all_from_run xs k)
@@ -89,14 +96,17 @@ not_all_from_run (x ∷ xs) h = by (is_digit x) refl (λ k. not_all_from_run xs 
     by true e r = let f = rw e at h in rw e (r (omega arith))
     by false e r = rw e
 
+-- a text of digits alone, and one at least, is digits
 pub digits_from_run : (xs : List ℕ) → 0 < length xs → prefix_len is_digit xs ≡ length xs → is_digits xs ≡ true
 digits_from_run [] n h = absurd (omega arith)
 digits_from_run (x ∷ xs) n h = all_from_run (x ∷ xs) h
 
+-- a text with another byte is not
 pub not_digits_from_run : (xs : List ℕ) → prefix_len is_digit xs < length xs → is_digits xs ≡ false
 not_digits_from_run [] h = absurd (omega arith)
 not_digits_from_run (x ∷ xs) h = not_all_from_run (x ∷ xs) h
 
+-- the digits of a text of digits are the text
 pub filter_digits : (xs : List ℕ) → list_all is_digit xs ≡ true → filter is_digit xs ≡ xs
 filter_digits [] h = refl
 filter_digits (x ∷ xs) h = by (is_digit x) refl (λ k. filter_digits xs k)
@@ -122,21 +132,26 @@ behind_is x xs = let e : suc (length xs) - 1 ≡ length xs = omega arith in rw e
 dot_is : (x : ℕ) → x ≡ 46 → (is_dot x ≡ true) × (is_digit x ≡ false)
 dot_is x e = rw e (refl, refl)
 
+-- at a dot what may follow is digits
 pub rest_at_dot : (xs : List ℕ) → 1 ≤ length xs → get_or xs 0 0 ≡ 46 → is_decimal_rest xs ≡ is_digits (behind_first xs)
 rest_at_dot [] n e = absurd (omega arith)
 rest_at_dot (x ∷ xs) n e = rw ((dot_is x e).0, behind_is x xs)
 
+-- there the places are the bytes behind it
 pub places_at_dot : (xs : List ℕ) → 1 ≤ length xs → get_or xs 0 0 ≡ 46 → places_of xs ≡ length (behind_first xs)
 places_at_dot [] n e = absurd (omega arith)
 places_at_dot (x ∷ xs) n e = rw ((dot_is x e).0, behind_is x xs)
 
+-- and the digits are those behind it
 pub filter_at_dot : (xs : List ℕ) → 1 ≤ length xs → get_or xs 0 0 ≡ 46 → filter is_digit xs ≡ filter is_digit (behind_first xs)
 filter_at_dot [] n e = absurd (omega arith)
 filter_at_dot (x ∷ xs) n e = rw ((dot_is x e).1, behind_is x xs)
 
+-- where the digits behind a dot are none, or end before the text, it is no decimal
 pub no_digits_behind_dot : (xs : List ℕ) (n : ℕ) → 1 ≤ length xs → get_or xs 0 0 ≡ 46 → n ≡ prefix_len is_digit (behind_first xs) → (n ≡ 0) ⊎ ((n ≡ 0 → ⊥) × (n < length (behind_first xs))) → is_decimal_rest xs ≡ false
 no_digits_behind_dot xs n l e p h = rest_at_dot xs l e ∙ not_digits_by (behind_first xs) n p h
 
+-- where they go to the end of the text, it is one
 pub digits_behind_dot : (xs : List ℕ) (n : ℕ) → 1 ≤ length xs → get_or xs 0 0 ≡ 46 → n ≡ prefix_len is_digit (behind_first xs) → (n ≡ 0 → ⊥) → length (behind_first xs) ≤ n → (is_decimal_rest xs ≡ true) × (filter is_digit xs ≡ take n (behind_first xs))
 digits_behind_dot xs n l e p some all =
     let ys = behind_first xs in
@@ -151,14 +166,17 @@ digits_behind_dot xs n l e p some all =
 abbrev pub rest_from : ℕ → List ℕ → List ℕ
 rest_from n xs = take (length xs - n) (drop n xs)
 
+-- behind the digits at the front stands no digit
 pub rest_has_no_digit : (xs : List ℕ) (n : ℕ) → n ≡ prefix_len is_digit xs → prefix_len is_digit (rest_from n xs) ≡ 0
 rest_has_no_digit xs n e = rw (take_rest xs n, e) (by_lt (prefix_len is_digit xs) (length xs)
     (λ l. prefix_len-drop_no is_digit xs (prefix_len is_digit xs) 0 l (prefix_len_stops is_digit xs 0 l))
     (λ l. prefix_len-drop_all is_digit xs (prefix_len is_digit xs) l))
 
+-- a text with a digit at its front is a decimal as what follows its digits allows
 pub decimal_after_run : (xs : List ℕ) (n : ℕ) → n ≡ prefix_len is_digit xs → (n ≡ 0 → ⊥) → is_decimal xs ≡ is_decimal_rest (rest_from n xs)
 decimal_after_run xs n e h = rw (take_rest xs n, e) (decimal_from_front xs (omega arith))
 
+-- its places are those of what follows
 pub places_after_run : (xs : List ℕ) (n : ℕ) → n ≡ prefix_len is_digit xs → places_of xs ≡ places_of (rest_from n xs)
 places_after_run xs n e = rw (take_rest xs n, e) (places_after_digits xs)
 
@@ -203,21 +221,25 @@ digits_of_parts xs n whole large places digits e w form p h =
 
 -- ---- the answers, one for each case
 
+-- reading no byte answers that the text is empty
 pub decimal_of_empty : (xs : List ℕ) (places max : ℕ) → length xs ≡ 0 → decimal_of xs places max ≡ Err Empty
 unfolding decimal_of
 decimal_of_empty [] places max h = refl
 decimal_of_empty (x ∷ xs) places max h = absurd (omega arith)
 
+-- reading what is no decimal answers so
 pub decimal_of_other : (xs : List ℕ) (places max : ℕ) → 0 < length xs → is_decimal xs ≡ false → decimal_of xs places max ≡ Err NotDigit
 unfolding decimal_of
 decimal_of_other [] places max h e = absurd (omega arith)
 decimal_of_other (x ∷ xs) places max h e = rw e
 
+-- reading too many places answers so
 pub decimal_of_places : (xs : List ℕ) (places max : ℕ) → is_decimal xs ≡ true → places < places_of xs → decimal_of xs places max ≡ Err Places
 unfolding decimal_of
 decimal_of_places [] places max e h = absurd (omega arith)
 decimal_of_places (x ∷ xs) places max e h = let t : nat_lt places (places_of (x ∷ xs)) ≡ true = grind (arith, nat_tests) in rw (e, t)
 
+-- reading a value above the greatest answers so
 pub decimal_of_large : (xs : List ℕ) (places max : ℕ) → is_decimal xs ≡ true → places_of xs ≤ places → max < scaled_value xs places → decimal_of xs places max ≡ Err TooLarge
 unfolding decimal_of
 decimal_of_large [] places max e h l = cc
@@ -226,6 +248,7 @@ decimal_of_large (x ∷ xs) places max e h l =
     let t : nat_lt max (scaled_value (x ∷ xs) places) ≡ true = grind (arith, nat_tests) in
     rw (e, s, t)
 
+-- reading any other decimal answers its value
 pub decimal_of_value : (xs : List ℕ) (places max : ℕ) → is_decimal xs ≡ true → places_of xs ≤ places → scaled_value xs places ≤ max → decimal_of xs places max ≡ Ok (scaled_value xs places)
 unfolding decimal_of
 decimal_of_value [] places max e h l = cc
@@ -262,9 +285,11 @@ decimal_of_scaled xs places max digits p large form e fits cap h =
 
 -- ---- whole numbers
 
+-- two to a power of at most 126 keeps its value in 128 bits
 pub power_below : (bits : ℕ) → bits ≤ 126 → (1 * 2 ^ bits) % 2 ^ 128 ≡ 2 ^ bits
 power_below bits h = one_shl bits 128 (omega arith)
 
+-- and is at most 2^126
 pub power_at_most : (bits : ℕ) → bits ≤ 126 → 2 ^ bits ≤ 2 ^ 126
 power_at_most bits h = pow-le-pow_right (omega arith) h
 
@@ -277,10 +302,12 @@ small_same p v w large cap h l = omega arith
 small_test : (p v w large : ℕ) → p ≤ large → min v large ≡ min w large → v < p → nat_le p w ≡ false
 small_test p v w large cap h l = let low : w < p = omega arith in grind (arith, nat_tests)
 
+-- reading a whole number from no byte answers that the text is empty
 pub magnitude_of_empty : (xs : List ℕ) (bits : ℕ) → length xs ≡ 0 → magnitude_of xs bits ≡ Err Empty
 magnitude_of_empty [] bits h = refl
 magnitude_of_empty (x ∷ xs) bits h = absurd (omega arith)
 
+-- from a text with another byte than digits it answers so
 pub magnitude_of_other : (xs : List ℕ) (bits n : ℕ) → n ≡ prefix_len is_digit xs → n < length xs → magnitude_of xs bits ≡ Err NotDigit
 magnitude_of_other [] bits n e h = absurd (omega arith)
 magnitude_of_other (x ∷ xs) bits n e h = let no = not_digits_from_run (x ∷ xs) (omega arith) in rw no
@@ -288,6 +315,7 @@ magnitude_of_other (x ∷ xs) bits n e h = let no = not_digits_from_run (x ∷ x
 run_is_all : (xs : List ℕ) (n : ℕ) → n ≡ prefix_len is_digit xs → length xs ≤ n → (prefix_len is_digit xs ≡ length xs) × (take n xs ≡ xs)
 run_is_all xs n e h = let fits : prefix_len is_digit xs ≤ length xs = prefix_len-le-length is_digit xs in (omega arith, take_all n xs h)
 
+-- from a value of too many bits it answers so
 pub magnitude_of_large : (xs : List ℕ) (bits n p v large : ℕ) → 0 < length xs → n ≡ prefix_len is_digit xs → length xs ≤ n → 2 ^ bits ≤ large → min v large ≡ min (0 * p + digits_worth (take n xs)) large → 2 ^ bits ≤ v → magnitude_of xs bits ≡ Err TooLarge
 magnitude_of_large [] bits n p v large some e all cap h l = absurd (omega arith)
 magnitude_of_large (x ∷ xs) bits n p v large some e all cap h l =
@@ -297,6 +325,7 @@ magnitude_of_large (x ∷ xs) bits n p v large some e all cap h l =
     let test : nat_le (2 ^ bits) (digits_worth (x ∷ xs)) ≡ true = large_test (2 ^ bits) v (digits_worth (x ∷ xs)) large cap worth l in
     rw (yes, test)
 
+-- from any other digits it answers their value
 pub magnitude_of_value : (xs : List ℕ) (bits n p v large : ℕ) → 0 < length xs → n ≡ prefix_len is_digit xs → length xs ≤ n → 2 ^ bits ≤ large → min v large ≡ min (0 * p + digits_worth (take n xs)) large → v < 2 ^ bits → magnitude_of xs bits ≡ Ok v
 magnitude_of_value [] bits n p v large some e all cap h l = absurd (omega arith)
 magnitude_of_value (x ∷ xs) bits n p v large some e all cap h l =
@@ -309,16 +338,19 @@ magnitude_of_value (x ∷ xs) bits n p v large some e all cap h l =
 
 -- ---- signs
 
+-- a text with a minus sign is read by what stands behind it
 pub wide_of_minus : (xs : List ℕ) (bits : ℕ) → 1 ≤ length xs → get_or xs 0 0 ≡ 45 → wide_of xs bits ≡ with_sign true (magnitude_of (behind_first xs) bits)
 unfolding wide_of
 wide_of_minus [] bits n e = absurd (omega arith)
 wide_of_minus (x ∷ xs) bits n e = let minus : is_minus x ≡ true = grind (arith, nat_tests) in rw (minus, behind_is x xs)
 
+-- another is read as it is
 pub wide_of_plain : (xs : List ℕ) (bits : ℕ) → get_or xs 0 0 ≢ 45 → wide_of xs bits ≡ with_sign false (magnitude_of xs bits)
 unfolding wide_of
 wide_of_plain [] bits h = refl
 wide_of_plain (x ∷ xs) bits h = let plain : is_minus x ≡ false = grind (arith, nat_tests) in rw plain
 
+-- and none is empty
 pub wide_of_empty : (xs : List ℕ) (bits : ℕ) → length xs < 1 → wide_of xs bits ≡ Err Empty
 unfolding wide_of
 wide_of_empty [] bits h = refl

@@ -28,6 +28,7 @@ cross_trans_strict_left n1 m1 n2 m2 n3 m3 p q r h k =
     let right = mul_right_comm n3 m2 m1 in
     mul_cancel_strict (n1 *ℤ m3) (n3 *ℤ m1) m2 q (omega (arith, ints))
 
+-- strict in the second step
 pub cross_trans_strict_right : (n1 m1 n2 m2 n3 m3 : ℤ) → pos 0 <ℤ m1 → pos 0 <ℤ m2 → pos 0 ≤ℤ m3 → (n1 *ℤ m2) ≤ℤ (n2 *ℤ m1) → (n2 *ℤ m3) <ℤ (n3 *ℤ m2) → (n1 *ℤ m3) <ℤ (n3 *ℤ m1)
 cross_trans_strict_right n1 m1 n2 m2 n3 m3 p q r h k =
     let low = mul_mono (n1 *ℤ m2) (n2 *ℤ m1) m3 r h in
@@ -61,14 +62,17 @@ pub cross_add_lower : (l1 l2 u n1 m1 n2 m2 : ℤ) → pos 0 ≤ℤ m1 → pos 0 
 cross_add_lower l1 l2 u n1 m1 n2 m2 p q h k =
     omega (arith, ints, mul_mono (l1 *ℤ m1) (n1 *ℤ u) m2 q h, mul_mono (l2 *ℤ m2) (n2 *ℤ u) m1 p k, bounds_apart l1 l2 m1 m2, tops_apart n1 n2 m1 m2 u)
 
+-- the upper bound of a sum
 pub cross_add_upper : (h1 h2 u n1 m1 n2 m2 : ℤ) → pos 0 ≤ℤ m1 → pos 0 ≤ℤ m2 → (n1 *ℤ u) ≤ℤ (h1 *ℤ m1) → (n2 *ℤ u) ≤ℤ (h2 *ℤ m2) → ((n1 *ℤ m2 +ℤ n2 *ℤ m1) *ℤ u) ≤ℤ ((h1 +ℤ h2) *ℤ (m1 *ℤ m2))
 cross_add_upper h1 h2 u n1 m1 n2 m2 p q h k =
     omega (arith, ints, mul_mono (n1 *ℤ u) (h1 *ℤ m1) m2 q h, mul_mono (n2 *ℤ u) (h2 *ℤ m2) m1 p k, bounds_apart h1 h2 m1 m2, tops_apart n1 n2 m1 m2 u)
 
+-- the lower bound of a difference
 pub cross_sub_lower : (l1 h2 u n1 m1 n2 m2 : ℤ) → pos 0 ≤ℤ m1 → pos 0 ≤ℤ m2 → (l1 *ℤ m1) ≤ℤ (n1 *ℤ u) → (n2 *ℤ u) ≤ℤ (h2 *ℤ m2) → ((l1 -ℤ h2) *ℤ (m1 *ℤ m2)) ≤ℤ ((n1 *ℤ m2 -ℤ n2 *ℤ m1) *ℤ u)
 cross_sub_lower l1 h2 u n1 m1 n2 m2 p q h k =
     omega (arith, ints, mul_mono (l1 *ℤ m1) (n1 *ℤ u) m2 q h, mul_mono (n2 *ℤ u) (h2 *ℤ m2) m1 p k, bounds_differ l1 h2 m1 m2, tops_differ n1 n2 m1 m2 u)
 
+-- the upper bound of a difference
 pub cross_sub_upper : (h1 l2 u n1 m1 n2 m2 : ℤ) → pos 0 ≤ℤ m1 → pos 0 ≤ℤ m2 → (n1 *ℤ u) ≤ℤ (h1 *ℤ m1) → (l2 *ℤ m2) ≤ℤ (n2 *ℤ u) → ((n1 *ℤ m2 -ℤ n2 *ℤ m1) *ℤ u) ≤ℤ ((h1 -ℤ l2) *ℤ (m1 *ℤ m2))
 cross_sub_upper h1 l2 u n1 m1 n2 m2 p q h k =
     omega (arith, ints, mul_mono (n1 *ℤ u) (h1 *ℤ m1) m2 q h, mul_mono (l2 *ℤ m2) (n2 *ℤ u) m1 p k, bounds_differ h1 l2 m1 m2, tops_differ n1 n2 m1 m2 u)
@@ -77,6 +81,7 @@ cross_sub_upper h1 l2 u n1 m1 n2 m2 p q h k =
 pub cross_rescale_lower : (w c u : ℤ) → pos 0 ≤ℤ u → (w *ℤ u) ≤ℤ c → (w *ℤ (u *ℤ u)) ≤ℤ (c *ℤ u)
 cross_rescale_lower w c u p h = omega (arith, ints, mul_mono (w *ℤ u) c u p h, mul_assoc w u u)
 
+-- the same for an upper bound
 pub cross_rescale_upper : (w c u : ℤ) → pos 0 ≤ℤ u → c ≤ℤ (w *ℤ u) → (c *ℤ u) ≤ℤ (w *ℤ (u *ℤ u))
 cross_rescale_upper w c u p h = omega (arith, ints, mul_mono c (w *ℤ u) u p h, mul_assoc w u u)
 
@@ -87,6 +92,7 @@ corner_lower l c s y1 y2 m z p low high at_low at_high =
     (λ n. omega (arith, ints, mul_mono l (c +ℤ s *ℤ y2) m p at_high, add_mul c (s *ℤ y2) m, mul_assoc s y2 m, mul_anti_left z (y2 *ℤ m) s (omega (arith, ints)) high))
     (λ n. omega (arith, ints, mul_mono l (c +ℤ s *ℤ y1) m p at_low, add_mul c (s *ℤ y1) m, mul_assoc s y1 m, mul_mono_left (y1 *ℤ m) z s n low))
 
+-- the same for an upper bound
 pub corner_upper : (h c s y1 y2 m z : ℤ) → pos 0 ≤ℤ m → (y1 *ℤ m) ≤ℤ z → z ≤ℤ (y2 *ℤ m) → (c +ℤ s *ℤ y1) ≤ℤ h → (c +ℤ s *ℤ y2) ≤ℤ h → (c *ℤ m +ℤ s *ℤ z) ≤ℤ (h *ℤ m)
 corner_upper h c s y1 y2 m z p low high at_low at_high =
     by_lt_z s (pos 0)
@@ -152,6 +158,7 @@ proper_product (suc m) zero p q = absurd (omega arith)
 pub IsProper-+ᶠ : (f g : Fraction) → IsProper f → IsProper g → IsProper (f +ᶠ g)
 IsProper-+ᶠ f g p q = proper_product f.bottom g.bottom p q
 
+-- a difference of proper fractions is proper
 pub IsProper--ᶠ : (f g : Fraction) → IsProper f → IsProper g → IsProper (f -ᶠ g)
 IsProper--ᶠ f g p q = proper_product f.bottom g.bottom p q
 
@@ -183,6 +190,7 @@ pub +ᶠ_mono : (f f' g g' : Fraction) → f ≤ᶠ f' → g ≤ᶠ g' → (f +�
       ap (λ z. (b' *ℤ d) *ℤ z) (mul_comm e c),
     )
 
+-- a difference grows with what stands first, and falls with what is taken away
 pub -ᶠ_mono : (f f' g g' : Fraction) → f ≤ᶠ f' → g' ≤ᶠ g → (f -ᶠ g) ≤ᶠ (f' -ᶠ g')
 -ᶠ_mono f f' g g' h k =
     let a = f.top in let b = g.top in let c = pos f.bottom in let d = pos g.bottom in
@@ -258,11 +266,14 @@ pub ≤ᶠ-whole : (a b : ℤ) → whole a ≤ᶠ whole b → a ≤ℤ b
 
 -- ---- the laws, as the calls state them
 
+-- ordered both ways is equal in value, and the other way round
 pub order_both_ways : (f g : Fraction) → ((f ≤ᶠ g) × (g ≤ᶠ f)) ↔ (f ≃ᶠ g)
 order_both_ways f g = ((λ p. ≤ᶠ_antisym f g p.0 p.1), (λ e. (≃ᶠ-≤ᶠ f g e, ≃ᶠ-≤ᶠ g f (sym e))))
 
+-- a factor above 0 keeps the order, both ways
 pub factor_both_ways : (f g h : Fraction) → IsProper h → pos 0 <ℤ h.top → (f ≤ᶠ g) ↔ ((f *ᶠ h) ≤ᶠ (g *ᶠ h))
 factor_both_ways f g h p q = (*ᶠ_mono_right f g h (omega (arith, ints)), *ᶠ_cancel_right f g h p q)
 
+-- and so does a divisor
 pub divisor_both_ways : (f g : Fraction) (n : ℕ) → 1 ≤ n → (f ≤ᶠ g) ↔ ((f /ᶠ n) ≤ᶠ (g /ᶠ n))
 divisor_both_ways f g n p = (/ᶠ_mono f g n, /ᶠ_cancel f g n p)

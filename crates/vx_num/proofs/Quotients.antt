@@ -46,6 +46,7 @@ floor_greatest a b q z p f h =
     let below : z <ℤ (q +ℤ pos 1) = mul_cancel_strict z (q +ℤ pos 1) b p (omega (arith, ints, next q b)) in
     omega (arith, ints)
 
+-- what is at most the floor is at most the quotient
 pub below_floor : (a b q z : ℤ) → pos 0 <ℤ b → IsFloor a b q → z ≤ℤ q → (z *ℤ b) ≤ℤ a
 below_floor a b q z p f h = let low = f.at_most in omega (arith, ints, mul_mono z q b (omega (arith, ints)) h)
 
@@ -56,6 +57,7 @@ ceiling_least a b q z p f h =
     let below : q <ℤ (z +ℤ pos 1) = mul_cancel_strict q (z +ℤ pos 1) b p (omega (arith, ints, next z b)) in
     omega (arith, ints)
 
+-- what is at least the ceiling is at least the quotient
 pub above_ceiling : (a b q z : ℤ) → pos 0 <ℤ b → IsCeiling a b q → q ≤ℤ z → a ≤ℤ (z *ℤ b)
 above_ceiling a b q z p f h = let low = f.at_least in omega (arith, ints, mul_mono q z b (omega (arith, ints)) h)
 
@@ -66,6 +68,7 @@ floor_unique a b q r p f g =
     let two = floor_greatest a b q r p f g.at_most in
     omega (arith, ints)
 
+-- two ceilings of one quotient are the same
 pub ceiling_unique : (a b q r : ℤ) → pos 0 <ℤ b → IsCeiling a b q → IsCeiling a b r → q ≡ r
 ceiling_unique a b q r p f g =
     let one = ceiling_least a b q r p f g.at_least in
@@ -76,9 +79,11 @@ ceiling_unique a b q r p f g =
 pub floor_mono : (a a' b q q' : ℤ) → pos 0 <ℤ b → a ≤ℤ a' → IsFloor a b q → IsFloor a' b q' → q ≤ℤ q'
 floor_mono a a' b q q' p h f g = let low = f.at_most in floor_greatest a' b q' q p g (omega (arith, ints))
 
+-- a ceiling grows with its dividend
 pub ceiling_mono : (a a' b q q' : ℤ) → pos 0 <ℤ b → a ≤ℤ a' → IsCeiling a b q → IsCeiling a' b q' → q ≤ℤ q'
 ceiling_mono a a' b q q' p h f g = let low = g.at_least in ceiling_least a b q q' p f (omega (arith, ints))
 
+-- the floor is at most the ceiling
 pub floor_at_most_ceiling : (a b q r : ℤ) → pos 0 <ℤ b → IsFloor a b q → IsCeiling a b r → q ≤ℤ r
 floor_at_most_ceiling a b q r p f g = let low = f.at_most in let high = g.at_least in mul_cancel q r b p (omega (arith, ints))
 
@@ -86,6 +91,7 @@ floor_at_most_ceiling a b q r p f g = let low = f.at_most in let high = g.at_lea
 pub floor_exact : (z b : ℤ) → pos 0 <ℤ b → IsFloor (z *ℤ b) b z
 floor_exact z b p = record { at_most = omega (arith, ints); next_above = omega (arith, ints) }
 
+-- a whole quotient is its own ceiling
 pub ceiling_exact : (z b : ℤ) → pos 0 <ℤ b → IsCeiling (z *ℤ b) b z
 ceiling_exact z b p = record { at_least = omega (arith, ints); last_below = omega (arith, ints) }
 
@@ -97,6 +103,7 @@ floor_within a b q m p low high f =
     let upper = mul_cancel q m b p (omega (arith, ints)) in
     (lower, upper)
 
+-- the same for a ceiling
 pub ceiling_within : (a b q m : ℤ) → pos 0 <ℤ b → neg_ℤ (m *ℤ b) ≤ℤ a → a ≤ℤ (m *ℤ b) → IsCeiling a b q → (neg_ℤ m ≤ℤ q) × (q ≤ℤ m)
 ceiling_within a b q m p low high f =
     let f1 = f.at_least in
@@ -111,6 +118,7 @@ floor_within_dividend a b q m p low high f =
     let one : m *ℤ pos 1 ≡ m = omega (arith, ints) in
     floor_within a b q m p (omega (arith, ints)) (omega (arith, ints)) f
 
+-- the same for a ceiling
 pub ceiling_within_dividend : (a b q m : ℤ) → pos 0 <ℤ b → neg_ℤ m ≤ℤ a → a ≤ℤ m → IsCeiling a b q → (neg_ℤ m ≤ℤ q) × (q ≤ℤ m)
 ceiling_within_dividend a b q m p low high f =
     let grown = mul_mono_left (pos 1) b m (omega (arith, ints)) (omega (arith, ints)) in
@@ -137,6 +145,7 @@ floor_scaled k a b q p f =
     let moved = mul_left_comm q k b in
     record { at_most = omega (arith, ints); next_above = omega (arith, ints, mul_add k (q *ℤ b) b) }
 
+-- the same for a ceiling
 pub ceiling_scaled : (k a b q : ℤ) → pos 0 <ℤ k → IsCeiling a b q → IsCeiling (k *ℤ a) (k *ℤ b) q
 ceiling_scaled k a b q p f =
     let low = mul_mono_left a (q *ℤ b) k (omega (arith, ints)) f.at_least in

@@ -27,15 +27,18 @@ square_gap x y m v p q r = omega (arith, ints, product_gap x x y y m m v v p q r
 
 -- ---- signed squares
 
+-- the signed square of a number that is not negative is its square
 pub signed_square_of_nonneg : (z : ℤ) → pos 0 ≤ℤ z → signed_square z ≡ z *ℤ z
 signed_square_of_nonneg (pos n) h = refl
 signed_square_of_nonneg (negsuc n) h = absurd (omega (arith, ints))
 
+-- that of another is its square below zero
 pub signed_square_of_negative : (z : ℤ) → z ≤ℤ pos 0 → signed_square z ≡ neg_ℤ (z *ℤ z)
 signed_square_of_negative (pos zero) h = refl
 signed_square_of_negative (pos (suc n)) h = absurd (omega (arith, ints))
 signed_square_of_negative (negsuc n) h = omega (arith, ints)
 
+-- the signed square of the opposite is the opposite
 pub signed_square-neg : (z : ℤ) → signed_square (neg_ℤ z) ≡ neg_ℤ (signed_square z)
 signed_square-neg (pos zero) = refl
 signed_square-neg (pos (suc n)) = omega (arith, ints)
@@ -51,12 +54,15 @@ signed_square_strict (pos x) (negsuc y) h = absurd (omega (arith, ints))
 signed_square_strict (negsuc x) (pos y) h = omega (arith, ints)
 signed_square_strict (negsuc x) (negsuc y) h = let l : suc y < suc x = omega (arith, ints) in omega (arith, ints, nat_square_strict (suc y) (suc x) l)
 
+-- so signed squares keep the order
 pub signed_square_mono : (x y : ℤ) → x ≤ℤ y → signed_square x ≤ℤ signed_square y
 signed_square_mono x y h = by_lt_z x y (λ l. omega (arith, ints, signed_square_strict x y l)) (λ l. let e : x ≡ y = omega (arith, ints) in omega (arith, ints, ap signed_square e))
 
+-- and give it back
 pub signed_square_cancel : (x y : ℤ) → signed_square x ≤ℤ signed_square y → x ≤ℤ y
 signed_square_cancel x y h = by_lt_z y x (λ l. absurd (omega (arith, ints, signed_square_strict y x l))) (λ l. l)
 
+-- also where it is strict
 pub signed_square_cancel_strict : (x y : ℤ) → signed_square x <ℤ signed_square y → x <ℤ y
 signed_square_cancel_strict x y h = by_lt_z x y (λ l. l) (λ l. absurd (omega (arith, ints, signed_square_mono y x l)))
 

@@ -20,9 +20,11 @@ up-neg a = (neg_is a).0
 down-neg : (a : ℤ) → down (neg_ℤ a) ≡ up a
 down-neg a = (neg_is a).1
 
+-- products commute
 pub mul_comm : (a b : ℤ) → a *ℤ b ≡ b *ℤ a
 mul_comm a b = *ℤ_comm a b
 
+-- and associate
 pub mul_assoc : (a b c : ℤ) → (a *ℤ b) *ℤ c ≡ a *ℤ (b *ℤ c)
 mul_assoc a b c = same_in ((a *ℤ b) *ℤ c) (a *ℤ (b *ℤ c)) (simp (up-mul, down-mul) (omega arith))
 
@@ -34,6 +36,7 @@ mul_swap a b c d = same_in ((a *ℤ b) *ℤ (c *ℤ d)) ((a *ℤ c) *ℤ (b *ℤ
 pub mul_left_comm : (a b c : ℤ) → a *ℤ (b *ℤ c) ≡ b *ℤ (a *ℤ c)
 mul_left_comm a b c = same_in (a *ℤ (b *ℤ c)) (b *ℤ (a *ℤ c)) (simp (up-mul, down-mul) (omega arith))
 
+-- the last two factors are exchanged
 pub mul_right_comm : (a b c : ℤ) → (a *ℤ b) *ℤ c ≡ (a *ℤ c) *ℤ b
 mul_right_comm a b c = same_in ((a *ℤ b) *ℤ c) ((a *ℤ c) *ℤ b) (simp (up-mul, down-mul) (omega arith))
 
@@ -44,18 +47,23 @@ add_mul a b c =
     let below = ap (λ x. x * down c) (sum_is_lem a b) in
     omega (arith, ints)
 
+-- a times a sum
 pub mul_add : (a b c : ℤ) → a *ℤ (b +ℤ c) ≡ a *ℤ b +ℤ a *ℤ c
 mul_add a b c = mul_comm a (b +ℤ c) ∙ add_mul b c a ∙ omega (arith, ints)
 
+-- the opposite of the first factor gives the opposite product
 pub neg_mul : (a b : ℤ) → neg_ℤ a *ℤ b ≡ neg_ℤ (a *ℤ b)
 neg_mul a b = same_in (neg_ℤ a *ℤ b) (neg_ℤ (a *ℤ b)) (simp (up-mul, down-mul, up-neg, down-neg) (omega arith))
 
+-- and so does that of the second
 pub mul_neg : (a b : ℤ) → a *ℤ neg_ℤ b ≡ neg_ℤ (a *ℤ b)
 mul_neg a b = mul_comm a (neg_ℤ b) ∙ neg_mul b a ∙ ap neg_ℤ (mul_comm b a)
 
+-- a difference times c
 pub sub_mul : (a b c : ℤ) → (a -ℤ b) *ℤ c ≡ a *ℤ c -ℤ b *ℤ c
 sub_mul a b c = add_mul a (neg_ℤ b) c ∙ ap (λ z. a *ℤ c +ℤ z) (neg_mul b c)
 
+-- a times a difference
 pub mul_sub : (a b c : ℤ) → a *ℤ (b -ℤ c) ≡ a *ℤ b -ℤ a *ℤ c
 mul_sub a b c = mul_add a b (neg_ℤ c) ∙ ap (λ z. a *ℤ b +ℤ z) (mul_neg a c)
 
@@ -66,14 +74,17 @@ pub mul_mono : (a b c : ℤ) → pos 0 ≤ℤ c → a ≤ℤ b → (a *ℤ c) �
 mul_mono a b (pos c) p h = let s : up a + down b ≤ up b + down a = omega (arith, ints) in omega (arith, ints, mul-le-mul_right c s)
 mul_mono a b (negsuc c) p h = absurd (omega (arith, ints))
 
+-- the same with the common factor in front
 pub mul_mono_left : (a b c : ℤ) → pos 0 ≤ℤ c → a ≤ℤ b → (c *ℤ a) ≤ℤ (c *ℤ b)
 mul_mono_left a b c p h = rw (mul_comm c a, mul_comm c b) (mul_mono a b c p h)
 
+-- a factor that is not positive turns the order
 pub mul_anti : (a b c : ℤ) → c ≤ℤ pos 0 → a ≤ℤ b → (b *ℤ c) ≤ℤ (a *ℤ c)
 mul_anti a b c p h =
     let turned : pos 0 ≤ℤ neg_ℤ c = omega (arith, ints) in
     omega (arith, ints, mul_mono a b (neg_ℤ c) turned h, mul_neg a c, mul_neg b c)
 
+-- the same with the common factor in front
 pub mul_anti_left : (a b c : ℤ) → c ≤ℤ pos 0 → a ≤ℤ b → (c *ℤ b) ≤ℤ (c *ℤ a)
 mul_anti_left a b c p h = rw (mul_comm c a, mul_comm c b) (mul_anti a b c p h)
 
@@ -85,6 +96,7 @@ mul_strict a b c p h =
     let some : pos 0 ≤ℤ c = omega (arith, ints) in
     omega (arith, ints, mul_mono (a +ℤ pos 1) b c some next, add_mul a (pos 1) c, one)
 
+-- the same with the common factor in front
 pub mul_strict_left : (a b c : ℤ) → pos 0 <ℤ c → a <ℤ b → (c *ℤ a) <ℤ (c *ℤ b)
 mul_strict_left a b c p h = rw (mul_comm c a, mul_comm c b) (mul_strict a b c p h)
 
@@ -92,15 +104,19 @@ mul_strict_left a b c p h = rw (mul_comm c a, mul_comm c b) (mul_strict a b c p 
 pub mul_cancel : (a b c : ℤ) → pos 0 <ℤ c → (a *ℤ c) ≤ℤ (b *ℤ c) → a ≤ℤ b
 mul_cancel a b c p h = by_lt_z b a (λ l. absurd (omega (arith, ints, mul_strict b a c p l))) (λ l. l)
 
+-- also where the order is strict
 pub mul_cancel_strict : (a b c : ℤ) → pos 0 <ℤ c → (a *ℤ c) <ℤ (b *ℤ c) → a <ℤ b
 mul_cancel_strict a b c p h = by_lt_z a b (λ l. l) (λ l. absurd (omega (arith, ints, mul_mono b a c (omega (arith, ints)) l)))
 
+-- the same with the common factor in front
 pub mul_cancel_left : (a b c : ℤ) → pos 0 <ℤ c → (c *ℤ a) ≤ℤ (c *ℤ b) → a ≤ℤ b
 mul_cancel_left a b c p h = mul_cancel a b c p (rw (mul_comm a c, mul_comm b c) h)
 
+-- also where the order is strict
 pub mul_cancel_strict_left : (a b c : ℤ) → pos 0 <ℤ c → (c *ℤ a) <ℤ (c *ℤ b) → a <ℤ b
 mul_cancel_strict_left a b c p h = mul_cancel_strict a b c p (rw (mul_comm a c, mul_comm b c) h)
 
+-- equal products with a factor above 0 have equal other factors
 pub mul_cancel_equal : (a b c : ℤ) → pos 0 <ℤ c → a *ℤ c ≡ b *ℤ c → a ≡ b
 mul_cancel_equal a b c p e =
     let low = mul_cancel a b c p (omega (arith, ints)) in
@@ -111,6 +127,7 @@ mul_cancel_equal a b c p e =
 pub mul_nonneg : (a b : ℤ) → pos 0 ≤ℤ a → pos 0 ≤ℤ b → pos 0 ≤ℤ (a *ℤ b)
 mul_nonneg a b p q = omega (arith, ints, mul_mono (pos 0) a b q p)
 
+-- factors above 0 have a product above 0
 pub mul_positive : (a b : ℤ) → pos 0 <ℤ a → pos 0 <ℤ b → pos 0 <ℤ (a *ℤ b)
 mul_positive a b p q = omega (arith, ints, mul_strict (pos 0) a b q p)
 
@@ -123,9 +140,11 @@ pub square_nonneg : (a : ℤ) → pos 0 ≤ℤ (a *ℤ a)
 square_nonneg (pos a) = omega (arith, ints)
 square_nonneg (negsuc a) = omega (arith, ints)
 
+-- squares keep the order of numbers that are not negative
 pub square_mono : (a b : ℤ) → pos 0 ≤ℤ a → a ≤ℤ b → (a *ℤ a) ≤ℤ (b *ℤ b)
 square_mono a b p h = mul_both a b a b p h p h
 
+-- also where it is strict
 pub square_strict : (a b : ℤ) → pos 0 ≤ℤ a → a <ℤ b → (a *ℤ a) <ℤ (b *ℤ b)
 square_strict a b p h =
     let some : pos 0 <ℤ b = omega (arith, ints) in
@@ -138,6 +157,7 @@ square_strict a b p h =
 pub between_lower : (l a b x y : ℤ) → a ≤ℤ x → x ≤ℤ b → l ≤ℤ (a *ℤ y) → l ≤ℤ (b *ℤ y) → l ≤ℤ (x *ℤ y)
 between_lower l a b x y low high p q = by_lt_z y (pos 0) (λ n. omega (arith, ints, mul_anti x b y (omega (arith, ints)) high)) (λ n. omega (arith, ints, mul_mono a x y n low))
 
+-- and at most what both ends give
 pub between_upper : (h a b x y : ℤ) → a ≤ℤ x → x ≤ℤ b → (a *ℤ y) ≤ℤ h → (b *ℤ y) ≤ℤ h → (x *ℤ y) ≤ℤ h
 between_upper h a b x y low high p q = by_lt_z y (pos 0) (λ n. omega (arith, ints, mul_anti a x y (omega (arith, ints)) low)) (λ n. omega (arith, ints, mul_mono x b y n high))
 
@@ -148,6 +168,7 @@ corners_lower l a b c d x y xl xh yl yh ac ad bc bd =
     let at_b = between_lower l c d y b yl yh (rw (mul_comm c b) bc) (rw (mul_comm d b) bd) in
     between_lower l a b x y xl xh (rw (mul_comm a y) at_a) (rw (mul_comm b y) at_b)
 
+-- what is at least each corner product is at least x * y
 pub corners_upper : (h a b c d x y : ℤ) → a ≤ℤ x → x ≤ℤ b → c ≤ℤ y → y ≤ℤ d → (a *ℤ c) ≤ℤ h → (a *ℤ d) ≤ℤ h → (b *ℤ c) ≤ℤ h → (b *ℤ d) ≤ℤ h → (x *ℤ y) ≤ℤ h
 corners_upper h a b c d x y xl xh yl yh ac ad bc bd =
     let at_a = between_upper h c d y a yl yh (rw (mul_comm c a) ac) (rw (mul_comm d a) ad) in

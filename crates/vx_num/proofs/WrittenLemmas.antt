@@ -19,11 +19,13 @@ positive_digit n p h =
     let low : n % 10 ≡ n = omega arith in
     rw (some, digits_of_step 10 n (omega arith) p, high, low)
 
+-- a number below 10 is one digit
 pub natural_text_digit : (n : ℕ) → n < 10 → natural_text n ≡ digit_byte n ∷ []
 unfolding natural_text
 natural_text_digit zero h = refl
 natural_text_digit (suc n) h = positive_digit (suc n) (omega arith) h
 
+-- another is the digits of its tenth, and its last digit
 pub natural_text_more : (n : ℕ) → 10 ≤ n → natural_text n ≡ natural_text (n / 10) ++ digit_byte (n % 10) ∷ []
 unfolding natural_text
 natural_text_more n h =
@@ -33,10 +35,12 @@ natural_text_more n h =
     let step = digits_of_step 10 n (omega arith) (omega arith) in
     rw (some, more, step) (map-append digit_byte (digits_of 10 (n / 10)) (n % 10 ∷ []))
 
+-- one last digit more stands behind those of the tenth
 pub last_digits_more : (count n : ℕ) → last_digits (suc count) n ≡ last_digits count (n / 10) ++ digit_byte (n % 10) ∷ []
 unfolding last_digits
 last_digits_more count n = refl
 
+-- no last digits are no text
 pub last_digits_none : (n : ℕ) → last_digits 0 n ≡ []
 unfolding last_digits
 last_digits_none n = refl
@@ -45,9 +49,11 @@ last_digits_none n = refl
 pub natural_text_moved : (n : ℕ) (xs : List ℕ) → 10 ≤ n → natural_text n ++ xs ≡ natural_text (n / 10) ++ digit_byte (n % 10) ∷ xs
 natural_text_moved n xs h = rw (natural_text_more n h, append_assoc)
 
+-- the first digit is put in front of the text
 pub natural_text_last : (n : ℕ) (xs : List ℕ) → n < 10 → natural_text n ++ xs ≡ digit_byte n ∷ xs
 natural_text_last n xs h = rw (natural_text_digit n h)
 
+-- one of the last digits moves from the number to the text behind it
 pub last_digits_moved : (count n : ℕ) (xs : List ℕ) → last_digits (suc count) n ++ xs ≡ last_digits count (n / 10) ++ digit_byte (n % 10) ∷ xs
 last_digits_moved count n xs = rw (last_digits_more count n, append_assoc)
 
@@ -65,5 +71,6 @@ room_more room n len l h f = by (room - suc len) refl
     by zero e = absurd (let g = rw e at high in omega arith)
     by (suc k) e = (div_below n 10 (10 ^ (room - suc len)) (omega arith) high, omega arith)
 
+-- the part before the last digits, one digit at a time
 pub high_part : (n k : ℕ) → n / 10 ^ suc k ≡ n / 10 / 10 ^ k
 high_part n k = rw (pow-succ' 10 k) (sym (div-div-eq-div-mul n 10 (10 ^ k)))

@@ -26,6 +26,7 @@ unfolding cents_of
 dollars_are Vx = refl
 dollars_are Vxm = refl
 
+-- every position has an amount at every figure
 pub amount_is_there : (figure : ℕ) (p : Position) → (amount : ℤ) × IsAmount figure p amount
 amount_is_there figure p =
     let gain : ℤ = pos (100 * figure) -ℤ pos p.last in
@@ -34,6 +35,7 @@ amount_is_there figure p =
 hundredth_is_one : (a b hundredfold : ℤ) → pos 100 *ℤ a ≡ hundredfold → pos 100 *ℤ b ≡ hundredfold → a ≡ b
 hundredth_is_one a b hundredfold e f = omega (arith, ints)
 
+-- and one alone
 pub amount_is_one : (figure : ℕ) (p : Position) (a b : ℤ) → IsAmount figure p a → IsAmount figure p b → a ≡ b
 amount_is_one figure p a b e f =
     hundredth_is_one a b ((pos (100 * figure) -ℤ pos p.last) *ℤ pos (multiplier_of p.contract) *ℤ p.quantity) e f
@@ -64,14 +66,17 @@ both_are gain cents quantity h k q =
     (λ i. to_z w128 (of_z w128 (first_is gain cents h k i)) *ℤ to_z-of_z w128 quantity (quantity_fits quantity q) i)
     ∙ ap (λ z. z *ℤ quantity) (to_z-of_z w128 (gain *ℤ pos cents) (first_fits gain cents h k))
 
+-- the amount has room in 128 bits
 pub amount_fits : (gain wide_cents wide_quantity : ℤ) (cents : ℕ) (quantity : ℤ) → wide_cents ≡ pos cents → wide_quantity ≡ quantity → nat_abs gain ≤ 2 ^ 32 → cents ≤ 10 → nat_abs quantity ≤ 1000000 → FitsSigned w128 (to_z w128 (of_z w128 (to_z w128 (of_z w128 gain) *ℤ to_z w128 (of_z w128 wide_cents))) *ℤ to_z w128 (of_z w128 wide_quantity))
 amount_fits gain wide_cents wide_quantity cents quantity e f h k q =
     subst (FitsSigned w128) (sym ((λ i. to_z w128 (of_z w128 (to_z w128 (of_z w128 gain) *ℤ to_z w128 (of_z w128 (e i)))) *ℤ to_z w128 (of_z w128 (f i))) ∙ both_are gain cents quantity h k q)) (both_fit gain cents quantity h k q)
 
+-- so the computed product is the amount
 pub amount_is : (gain wide_cents wide_quantity : ℤ) (cents : ℕ) (quantity : ℤ) → wide_cents ≡ pos cents → wide_quantity ≡ quantity → nat_abs gain ≤ 2 ^ 32 → cents ≤ 10 → nat_abs quantity ≤ 1000000 → to_z w128 (of_z w128 (to_z w128 (of_z w128 (to_z w128 (of_z w128 gain) *ℤ to_z w128 (of_z w128 wide_cents))) *ℤ to_z w128 (of_z w128 wide_quantity))) ≡ gain *ℤ pos cents *ℤ quantity
 amount_is gain wide_cents wide_quantity cents quantity e f h k q =
     (λ i. to_z w128 (of_z w128 (to_z w128 (of_z w128 (to_z w128 (of_z w128 gain) *ℤ to_z w128 (of_z w128 (e i)))) *ℤ to_z w128 (of_z w128 (f i)))))
     ∙ (ap (λ z. to_z w128 (of_z w128 z)) (both_are gain cents quantity h k q) ∙ to_z-of_z w128 (gain *ℤ pos cents *ℤ quantity) (both_fit gain cents quantity h k q))
 
+-- a quantity in range keeps its value in 32 bits
 pub quantity_is : (quantity : ℤ) → nat_abs quantity ≤ 1000000 → to_z w32 (of_z w32 quantity) ≡ quantity
 quantity_is quantity q = to_z-of_z w32 quantity (fits_signed_from_abs w32 quantity (omega arith))

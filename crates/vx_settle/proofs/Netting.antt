@@ -157,6 +157,7 @@ netted_worth (suc n) figure (p ∷ ps) few nets =
     (netted_worth n figure (others p.contract p.last ps) (omega (arith, few, others_fewer p.contract p.last ps))
     (λ contract last. ap (net_quantity contract last) (sym (others_behind p ps)) ∙ others_net contract last (p ∷ ps) (is_same_contract contract p.contract && (last == p.last)) p.contract p.last refl (nets contract last)))
 
+-- positions that net to zero at each contract and last price have amounts that sum to zero
 pub netted_settles_to_zero : (figure : ℕ) (ps : List Position) (amounts : List ℤ) → ((contract : Contract) (last : ℕ) → net_quantity contract last ps ≡ pos 0) → AreAmounts figure ps amounts → total_of amounts ≡ pos 0
 netted_settles_to_zero figure ps amounts nets are =
     emptied (total_of amounts) (total_is_worth figure ps amounts are ∙ netted_worth (length ps) figure ps (omega arith) nets)
