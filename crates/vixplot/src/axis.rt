@@ -2,9 +2,10 @@
 
 ghost use Rattle.std.specs.Prelude.{◌≡◌, ◌+◌, ◌-◌, ◌*◌, ◌/◌, ◌<◌, ◌≤◌, Some, find};
 ghost use Rattle.vx_clock.specs.declared.limits.TheConstants.{DAY_MINUTES, MINUTE_MAX};
+ghost use Rattle.vixplot.specs.declared.limits.TheConstants.{CENT_SCALE_MAX, CENT_STEP_MAX};
 ghost use Rattle.vixplot.specs.Scales.{place_in, reaches};
 
-use crate::limits::{HEIGHT, LEFT, STEPS_MAX, TIMES_MAX, TOP, WIDTH};
+use crate::limits::{CENT_STEP_MAX, HEIGHT, LEFT, STEPS_MAX, TIMES_MAX, TOP, WIDTH};
 use vx_num::limits::CENTS_MAX;
 
 /// The distances that lines of the scale of figures may have, in hundredths of a point.
@@ -23,7 +24,7 @@ pub struct Scale {
     pub step: u32,
     pub ghost has_step: { 0 < step },
     pub ghost rises: { first < last },
-    pub ghost is_small: { last ≤ 370_000 },
+    pub ghost is_small: { last ≤ CENT_SCALE_MAX },
 }
 
 /// The least of the steps of which few enough reach from one figure to another.
@@ -32,13 +33,13 @@ fn cent_step(low: u32, high: u32) -> u32
     requires range { high ≤ CENTS_MAX }
     ensures first { find (reaches (high - low) STEPS_MAX) CENT_STEPS ≡ Some result }
     ensures positive { 0 < result }
-    ensures small { result ≤ 50_000 }
+    ensures small { result ≤ CENT_STEP_MAX }
 {
     let reaching = CENT_STEPS
         .iter()
         .copied()
         .find(|&step| high - low <= STEPS_MAX * step);
-    reaching.unwrap_or(50_000)
+    reaching.unwrap_or(CENT_STEP_MAX)
 }
 
 impl Scale {

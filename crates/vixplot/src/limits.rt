@@ -20,5 +20,9 @@ pub const HEIGHT: u32 = 4_000;
 
 /// The most steps from the lowest figure to the highest.
 pub const STEPS_MAX: u32 = 7;
+/// The greatest step of the scale of figures, 500 points, in hundredths of a point.
+pub const CENT_STEP_MAX: u32 = 50_000;
+/// The greatest end of the scale of figures, one step above the greatest figure, in hundredths of a point.
+pub const CENT_SCALE_MAX: u32 = vx_num::limits::CENTS_MAX as u32 + CENT_STEP_MAX;
 /// The most steps from the first minute to the last.
 pub const TIMES_MAX: u16 = 12;
