@@ -15,5 +15,4 @@ pub mod NextBook
 pub mod AtTick
 pub mod AtOpening
 pub mod EachKind
-pub mod TermsAreOne
 pub mod Sound

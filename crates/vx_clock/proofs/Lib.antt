@@ -1,5 +1,6 @@
 -- Lemmas on the order of terms, and on days and their texts.
 pub mod TermOrder
+pub mod TermsAreOne
 pub mod Best
 pub mod DigitFacts
 pub mod DigitText

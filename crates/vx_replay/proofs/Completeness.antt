@@ -40,7 +40,7 @@ use Rattle.vx_replay.specs.Lawful.{IsLawfulAnswer}
 use Rattle.vx_replay.specs.Complete.{HasClearForward, HasClearIndex, IsAnswered, ClearTickIsPublished, FirstRefusalIsAnswered}
 use Rattle.vx_replay.proofs.Places.{place_range}
 use Rattle.vx_replay.proofs.LawfulTicks.{tick_answer_is_lawful}
-use Rattle.vx_replay.proofs.TermsAreOne.{near_is_one, next_is_one}
+use Rattle.vx_clock.proofs.TermsAreOne.{near_is_one, next_is_one}
 
 -- ---- the facts of a tick are one
 

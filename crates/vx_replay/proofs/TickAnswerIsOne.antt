@@ -22,7 +22,7 @@ use Rattle.vx_replay.specs.declared.answer.Reason.TheVariants.{NoTerm, Term, Neg
 use Rattle.vx_replay.specs.declared.answer.Which.TheVariants.{Near, Next, Both}
 use Rattle.vx_replay.specs.Joined.{IsJoinedWithRun, IsJoined}
 use Rattle.vx_replay.specs.Ticks.{IsAnswerFor, IsAnswerOfTerms, HasNoNearTerm, HasNoNextTerm, IsAnswerAfter, IsTickAnswer}
-use Rattle.vx_replay.proofs.TermsAreOne.{near_is_one, next_is_one}
+use Rattle.vx_clock.proofs.TermsAreOne.{near_is_one, next_is_one}
 use Rattle.vx_replay.proofs.FigureIsOne.{square_of_runs_is_ordered, figure_is_one}
 
 -- ---- of the answers for both terms

@@ -3,7 +3,7 @@ use Rattle.std.specs.List.{slice_get}
 use Rattle.std.proofs.lemmas.Option.{same_Some}
 use Rattle.vx_clock.specs.declared.terms.Expiry.{Expiry}
 use Rattle.vx_clock.specs.Terms.{IsNearTerm, IsNextTerm}
-use Rattle.vx_check.proofs.TermsAreOne.{near_is_one, next_is_one}
+use Rattle.vx_clock.proofs.TermsAreOne.{near_is_one, next_is_one}
 use Rattle.vx_check.proofs.index.are_terms_among.Goals as goal
 
 found : (o : Option Expiry) (P : Expiry → Type 0) → IsSomeAnd o P → (e : Expiry) × (o ≡ Some e) × P e

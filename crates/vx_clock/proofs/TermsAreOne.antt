@@ -13,7 +13,8 @@ root_is_one Spx Spxw h k = absurd (omega arith)
 root_is_one Spxw Spx h k = absurd (omega arith)
 root_is_one Spxw Spxw h k = refl
 
-expiry_is_one : (a b : Expiry) → a.date.0 ≡ b.date.0 → root_rank a.root ≤ root_rank b.root → root_rank b.root ≤ root_rank a.root → a ≡ b
+-- expiries on one date whose roots come neither before the other are one
+pub expiry_is_one : (a b : Expiry) → a.date.0 ≡ b.date.0 → root_rank a.root ≤ root_rank b.root → root_rank b.root ≤ root_rank a.root → a ≡ b
 expiry_is_one a b e h k =
     let roots : a.root ≡ b.root = root_is_one a.root b.root h k in
     λ i. record { root = roots i; date = record { 0 = e i } }
@@ -30,8 +31,12 @@ next_order a b (inl h) (inr k) = let e = k.0 in absurd (omega (arith, ints))
 next_order a b (inr h) (inl k) = let e = h.0 in absurd (omega (arith, ints))
 next_order a b (inr h) (inr k) = expiry_is_one a b h.0 h.1 k.1
 
-pub near_is_one : (today : DayNo) (days window : ℕ) (expiries : List Expiry) (a b : Expiry) → IsNearTerm today days window expiries a → IsNearTerm today days window expiries b → a ≡ b
+-- two near terms of the same declared expiries are one
+pub near_is_one : (today : DayNo) (days window : ℕ) (expiries : List Expiry) (a b : Expiry)
+    → IsNearTerm today days window expiries a → IsNearTerm today days window expiries b → a ≡ b
 near_is_one today days window expiries a b h k = near_order a b (h.first b k.declared k.in_window) (k.first a h.declared h.in_window)
 
-pub next_is_one : (today : DayNo) (days window : ℕ) (expiries : List Expiry) (a b : Expiry) → IsNextTerm today days window expiries a → IsNextTerm today days window expiries b → a ≡ b
+-- and so are two next terms
+pub next_is_one : (today : DayNo) (days window : ℕ) (expiries : List Expiry) (a b : Expiry)
+    → IsNextTerm today days window expiries a → IsNextTerm today days window expiries b → a ≡ b
 next_is_one today days window expiries a b h k = next_order a b (h.first b k.declared k.in_window) (k.first a h.declared h.in_window)
