@@ -19,7 +19,8 @@ use Rattle.vx_feed.specs.Said.{first_said, last_said}
 use Rattle.vx_feed.specs.Standing.{before_opening, is_opening, lists_series, opening_trade, rate_of, since_listed, standing_rate, trade_of}
 use Rattle.vx_feed.specs.Listed.{declared_expiries, is_listed, is_strike_listed, listed_rows, listed_strikes, row_of, series_at, standing_price, strikes_of}
 use Rattle.vx_feed.specs.Opening.{opening_expiries, opening_line, opening_minute, opening_price, opening_rate, opening_rows, opening_time, traded_price}
-use Rattle.vx_feed.proofs.NextEvent.{any-push, before_opening-all, first_said-push, next_before_opening, or-false}
+use Rattle.vx_feed.proofs.NextEvent.{any-push, before_opening-all, first_said-push, or-false}
+use Rattle.vx_feed.proofs.OpeningLemmas.{before_kept, before_now, not_opened, time_is}
 use Rattle.vx_book.specs.declared.opening.Opened.{Opened}
 use Rattle.vx_book.specs.declared.opening.OpeningTerm.{OpeningTerm}
 use Rattle.vx_book.specs.declared.table.Table.{Table}
@@ -32,26 +33,6 @@ use Rattle.vx_book.proofs.Terms.{and_there, shows_next}
 
 -- ---- whether the opening was taken
 
-minute_is : (e : Event) → is_some (opening_minute e) ≡ is_opening e
-minute_is (event.Opening time) = refl
-minute_is (event.Header day) = refl
-minute_is (event.Expiry x) = refl
-minute_is (event.Rate x rate) = refl
-minute_is (event.Series s) = refl
-minute_is (event.Quote time s bid ask) = refl
-minute_is (event.Trade time s price) = refl
-minute_is (event.Tick time) = refl
-minute_is (event.End count) = refl
-
-either_some : (a b : Option ℕ) → is_some (option_or a b) ≡ (is_some a || is_some b)
-either_some None b = refl
-either_some (Some x) b = refl
-
-time_is : (events : List Event) → is_some (opening_time events) ≡ list_any is_opening events
-time_is [] = refl
-time_is (e ∷ events) =
-    either_some (opening_minute e) (opening_time events) ∙ ap (λ b. b || is_some (opening_time events)) (minute_is e) ∙ ap (λ b. is_opening e || b) (time_is events)
-
 abbrev opened_when : ℕ → ℕ → ℕ → Opened
 opened_when line time expiries = record { line = line; time = time; expiries = expiries }
 
@@ -62,10 +43,6 @@ mapped_is f (Some n) = refl
 pub opened_is : (events : List Event) → is_some (opened_at events) ≡ list_any is_opening events
 opened_is events = mapped_is (λ time. opened_when (opening_line events) time (length (opening_expiries events))) (opening_time events) ∙ time_is events
 
-none_from : (o : Option ℕ) → is_some o ≡ false → o ≡ None
-none_from None h = refl
-none_from (Some x) h = cc
-
 or_some : (a b : Option ℕ) → is_some a ≡ true → option_or a b ≡ a
 or_some None b h = cc
 or_some (Some x) b h = refl
@@ -74,18 +51,11 @@ or_some (Some x) b h = refl
 abbrev opened_by : Option ℕ → List Event → Option Opened
 opened_by time before = option_map (λ t. opened_when (length before + 1) t (length (declared_expiries before))) time
 
-before_kept : (events : List Event) (e : Event) → list_any is_opening events ≡ true → before_opening (events ++ e ∷ []) ≡ before_opening events
-before_kept events e opened =
-    next_before_opening events e ∙ ap (λ b. cond b (before_opening events) (cond (is_opening e) events (events ++ e ∷ []))) opened
-
 pub opened_kept : (events : List Event) (e : Event) → list_any is_opening events ≡ true → opened_at (events ++ e ∷ []) ≡ opened_at events
 opened_kept events e opened =
     ap (opened_by (opening_time (events ++ e ∷ []))) (before_kept events e opened)
     ∙ ap (λ time. opened_by time (before_opening events))
     (first_said-push opening_minute events e ∙ or_some (opening_time events) (opening_minute e) (time_is events ∙ opened))
-
-not_opened : (events : List Event) → list_any is_opening events ≡ false → opening_time events ≡ None
-not_opened events h = none_from (opening_time events) (time_is events ∙ h)
 
 -- an event that is no opening
 pub opened_same : (events : List Event) (e : Event) → is_opening e ≡ false → opened_at (events ++ e ∷ []) ≡ opened_at events
@@ -96,10 +66,6 @@ opened_same events e none =
           ap (λ time. opened_by time (before_opening (events ++ e ∷ []))) (not_opened (events ++ e ∷ []) (any-push is_opening events e ∙ ap (λ b. b || is_opening e) unopened ∙ none))
           ∙ sym (ap (λ time. opened_by time (before_opening events)) (not_opened events unopened))
     ]
-
-before_now : (events : List Event) (time : ℕ) → list_any is_opening events ≡ false → before_opening (events ++ event.Opening time ∷ []) ≡ events
-before_now events time unopened =
-    next_before_opening events (event.Opening time) ∙ ap (λ b. cond b (before_opening events) events) unopened
 
 pub opened_now : (events : List Event) (time : ℕ) → list_any is_opening events ≡ false
     → opened_at (events ++ event.Opening time ∷ []) ≡ Some (opened_when (length events + 1) time (length (declared_expiries events)))

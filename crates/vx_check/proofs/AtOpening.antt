@@ -1,5 +1,5 @@
 -- The opening of a lawful feed stands at one line, the one that the book keeps.
-use Rattle.std.proofs.Common.{◌≡◌, ◌↔◌, ℕ, zero, suc, ◌+◌, ◌-◌, ◌||◌, Bool, true, false, cond, IsTrue, MatchOption, IsSomeAnd, option_map, option_and_then, List, [], ◌∷◌, ◌++◌, length, Option, Some, None, refl, sym, ◌∙◌, ap, subst, arith}
+use Rattle.std.proofs.Common.{◌≡◌, ◌↔◌, ℕ, zero, suc, ◌-◌, ◌||◌, Bool, true, false, cond, IsTrue, MatchOption, IsSomeAnd, option_map, option_and_then, List, [], ◌∷◌, ◌++◌, length, Option, Some, None, refl, sym, ◌∙◌, ap, subst, arith}
 use Rattle.std.specs.List.{slice_get, list_any}
 use Rattle.std.proofs.lemmas.List.Folds.{list_any-append}
 use Rattle.std.proofs.lemmas.Option.{same_Some}
@@ -17,6 +17,7 @@ use Rattle.vx_cert.specs.declared.certificate.CertTerm.{CertTerm}
 use Rattle.vx_formula.specs.Level.{StrikesRise}
 use Rattle.vx_formula.specs.Term.{TermFacts}
 use Rattle.vx_claims.specs.Seen.{IsOpeningAt, opening_expiry, opening_term_facts, opening_term_of, opening_facts}
+use Rattle.vx_claims.proofs.OpeningPlaces.{opening_stands}
 use Rattle.vx_claims.proofs.RisingRows.{listed_rows_rise}
 use Rattle.vx_claims.specs.declared.acceptance.Test.{Test}
 use Rattle.vx_claims.specs.TermTests.{TermMeets}
@@ -83,28 +84,6 @@ opening_at events line time lawful at =
     let first = first_opening time [] events (line - 1) lawful at.1 in
     let low = at.0 in
     (first.0, omega (arith, low, first.1))
-
--- ---- and where it was taken it stands
-
-taken_at : (events : List Event) (time : ℕ) → opening_time events ≡ Some time → slice_get events (length (before_opening events)) ≡ Some (event.Opening time)
-taken_at [] time h = absurd cc
-taken_at (event.Opening t ∷ events) time h = let same : t ≡ time = cc in ap (λ m. Some (event.Opening m)) same
-taken_at (event.Header day ∷ events) time h = taken_at events time h
-taken_at (event.Expiry x ∷ events) time h = taken_at events time h
-taken_at (event.Rate x rate ∷ events) time h = taken_at events time h
-taken_at (event.Series s ∷ events) time h = taken_at events time h
-taken_at (event.Quote t s bid ask ∷ events) time h = taken_at events time h
-taken_at (event.Trade t s price ∷ events) time h = taken_at events time h
-taken_at (event.Tick t ∷ events) time h = taken_at events time h
-taken_at (event.End count ∷ events) time h = taken_at events time h
-
-less_one : (n : ℕ) → n + 1 - 1 ≡ n
-less_one n = omega arith
-
-pub opening_stands : (events : List Event) (time : ℕ) → opening_time events ≡ Some time → IsOpeningAt events (opening_line events) time
-opening_stands events time h =
-    let n : ℕ = length (before_opening events) in
-    (omega arith, subst (λ (k : ℕ). slice_get events k ≡ Some (event.Opening time)) (sym (less_one n)) (taken_at events time h))
 
 -- ---- what the book keeps of it
 

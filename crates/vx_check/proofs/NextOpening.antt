@@ -1,5 +1,5 @@
 -- The opening after one more event.
-use Rattle.std.proofs.Common.{◌≡◌, ℕ, ◌+◌, ◌<◌, true, false, cond, ◌||◌, List, [], ◌∷◌, ◌++◌, map, length, Option, Some, None, option_and_then, refl, sym, ◌∙◌, ap, subst}
+use Rattle.std.proofs.Common.{◌≡◌, ℕ, ◌+◌, ◌<◌, true, false, cond, List, [], ◌∷◌, ◌++◌, map, length, Option, Some, None, option_and_then, refl, sym, ◌∙◌, ap, subst}
 use Rattle.std.specs.Prelude.{ℤ, MatchOption, IsSomeAnd, is_some, option_map, find}
 use Rattle.std.specs.List.{list_any}
 use Rattle.std.specs.Option.{option_or}
@@ -19,7 +19,8 @@ use Rattle.vx_feed.specs.Standing.{before_opening, is_opening, opening_trade, si
 use Rattle.vx_feed.specs.Listed.{declared_expiries, header_day, is_declared, listed_strikes, row_of, series_at, standing_price, trade_date}
 use Rattle.vx_feed.specs.Opening.{opening_minute, opening_time, traded_price}
 use Rattle.vx_feed.specs.Order.{IsLawfulNext}
-use Rattle.vx_feed.proofs.NextEvent.{before_opening-all, first_said-push, next_before_opening}
+use Rattle.vx_feed.proofs.NextEvent.{before_opening-all, first_said-push}
+use Rattle.vx_feed.proofs.OpeningLemmas.{before_kept, before_now, not_opened, time_is}
 use Rattle.vx_formula.specs.declared.limits.TheConstants.{THIRTY_DAYS}
 use Rattle.vx_formula.specs.Term.{TermFacts}
 use Rattle.vx_claims.specs.Seen.{opening_expiry}
@@ -39,34 +40,6 @@ use Rattle.vx_check.proofs.NextTrades.{AllTraded, trades_in}
 
 -- ---- whether the opening was taken
 
-minute_is : (e : Event) → is_some (opening_minute e) ≡ is_opening e
-minute_is (event.Opening time) = refl
-minute_is (event.Header day) = refl
-minute_is (event.Expiry x) = refl
-minute_is (event.Rate x rate) = refl
-minute_is (event.Series s) = refl
-minute_is (event.Quote time s bid ask) = refl
-minute_is (event.Trade time s price) = refl
-minute_is (event.Tick time) = refl
-minute_is (event.End count) = refl
-
-either_some : (a b : Option ℕ) → is_some (option_or a b) ≡ (is_some a || is_some b)
-either_some None b = refl
-either_some (Some x) b = refl
-
-time_is : (events : List Event) → is_some (opening_time events) ≡ list_any is_opening events
-time_is [] = refl
-time_is (e ∷ events) =
-    either_some (opening_minute e) (opening_time events) ∙ ap (λ b. b || is_some (opening_time events)) (minute_is e)
-    ∙ ap (λ b. is_opening e || b) (time_is events)
-
-none_from : (o : Option ℕ) → is_some o ≡ false → o ≡ None
-none_from None h = refl
-none_from (Some x) h = absurd (cc h)
-
-not_opened : (events : List Event) → list_any is_opening events ≡ false → opening_time events ≡ None
-not_opened events h = none_from (opening_time events) (time_is events ∙ h)
-
 -- what is kept of the opening after some events
 abbrev pub Keeps : Option Opening → List Event → Type 0
 Keeps opening events = MatchOption opening (opening_time events ≡ None) (IsOpeningOfEvents events)
@@ -75,16 +48,6 @@ Keeps opening events = MatchOption opening (opening_time events ≡ None) (IsOpe
 pub is_opened : (opening : Option Opening) (events : List Event) → Keeps opening events → list_any is_opening events ≡ is_some opening
 is_opened None events h = sym (time_is events) ∙ ap is_some h
 is_opened (Some opening) events h = sym (time_is events) ∙ ap is_some h.time
-
-before_kept : (events : List Event) (e : Event) → list_any is_opening events ≡ true
-    → before_opening (events ++ e ∷ []) ≡ before_opening events
-before_kept events e opened =
-    next_before_opening events e ∙ ap (λ b. cond b (before_opening events) (cond (is_opening e) events (events ++ e ∷ []))) opened
-
-before_now : (events : List Event) (time : ℕ) → list_any is_opening events ≡ false
-    → before_opening (events ++ event.Opening time ∷ []) ≡ events
-before_now events time unopened =
-    next_before_opening events (event.Opening time) ∙ ap (λ b. cond b (before_opening events) events) unopened
 
 -- ---- the term by the events before the opening
 

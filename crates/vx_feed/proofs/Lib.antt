@@ -1,5 +1,6 @@
 -- Lemmas on lawful feeds: their order, their lines, and what they show.
 pub mod NextEvent
+pub mod OpeningLemmas
 pub mod ReadBack
 pub mod SameLemmas
 pub mod StrikeLemmas

@@ -1,7 +1,6 @@
 -- The answer to the opening of lawful events is lawful.
-use Rattle.std.proofs.Common.{◌≡◌, ◌∙◌, sym, ap, subst, refl, ℕ, ◌+◌, ◌-◌, ◌<◌, ◌≤◌, inl, inr, Bool, true, ℤ, pos, ◌+ℤ◌, ◌≤ℤ◌, List, [], ◌∷◌, length, Some, None, arith}
+use Rattle.std.proofs.Common.{◌≡◌, ◌∙◌, sym, ap, subst, refl, ℕ, ◌+◌, ◌<◌, ◌≤◌, inl, inr, Bool, true, ℤ, pos, ◌+ℤ◌, ◌≤ℤ◌, List, Some, None, arith}
 use Rattle.std.specs.Prelude.{is_some}
-use Rattle.std.specs.List.{slice_get}
 use Rattle.std.specs.Option.{option_and_then}
 use Rattle.std.proofs.lemmas.Int.{ints}
 use Rattle.std.proofs.lemmas.Bool.{cases_Bool, cond-true, cond-false}
@@ -28,9 +27,10 @@ use Rattle.vx_formula.specs.Refusal.{TermReason, no_rate, no_pair, no_strike_bel
 use Rattle.vx_claims.specs.declared.acceptance.Test.{Test}
 use Rattle.vx_claims.specs.declared.acceptance.Test.TheVariants.{Place, Terms, Minutes, Rate, TaylorTerms, Exponential, ClosestPair, Forward, Level, Excess, Strip, Contributions, Total, Variance, Square, IndexEnds}
 use Rattle.vx_claims.specs.declared.limits.TheConstants.{SCALE}
-use Rattle.vx_claims.specs.Seen.{IsOpeningAt, opening_expiry, opening_term_facts, opening_term_of, opening_facts}
+use Rattle.vx_claims.specs.Seen.{opening_expiry, opening_term_facts, opening_term_of, opening_facts}
 use Rattle.vx_claims.specs.TermTests.{EnclosesVariance}
 use Rattle.vx_claims.specs.Accepts.{OpeningTermMeets, IsOpeningExpiry, SoqMeets, Accepts}
+use Rattle.vx_claims.proofs.OpeningPlaces.{opening_stands}
 use Rattle.vx_claims.specs.Answers.{PublishesOpening, RefusesOpening, LeavesOpeningForward, LeavesOpeningCents}
 use Rattle.vx_facts.proofs.ShownProofs.{opening_is_lawful}
 use Rattle.vx_soundness.proofs.Meaning.{accepted_means}
@@ -58,29 +58,6 @@ use Rattle.vx_soq.specs.Lawful.{IsLawfulOpening, OpeningAnswerIsLawful}
 
 fine : IsScale SCALE
 fine = (omega arith, omega arith)
-
--- ---- where the opening stands
-
--- the event after those before the opening takes it
-taken_at : (events : List Event) (time : ℕ) → opening_time events ≡ Some time → slice_get events (length (before_opening events)) ≡ Some (event.Opening time)
-taken_at [] time h = absurd cc
-taken_at (event.Opening t ∷ events) time h = let same : t ≡ time = same_Some t time h in ap (λ m. Some (event.Opening m)) same
-taken_at (event.Header day ∷ events) time h = taken_at events time h
-taken_at (event.Expiry x ∷ events) time h = taken_at events time h
-taken_at (event.Rate x rate ∷ events) time h = taken_at events time h
-taken_at (event.Series s ∷ events) time h = taken_at events time h
-taken_at (event.Quote t s bid ask ∷ events) time h = taken_at events time h
-taken_at (event.Trade t s price ∷ events) time h = taken_at events time h
-taken_at (event.Tick t ∷ events) time h = taken_at events time h
-taken_at (event.End count ∷ events) time h = taken_at events time h
-
-before_it : (n : ℕ) → n + 1 - 1 ≡ n
-before_it n = omega arith
-
-stands_at : (events : List Event) (time : ℕ) → opening_time events ≡ Some time → IsOpeningAt events (opening_line events) time
-stands_at events time h =
-    let n : ℕ = length (before_opening events) in
-    (omega arith, subst (λ (k : ℕ). slice_get events k ≡ Some (event.Opening time)) (sym (before_it n)) (taken_at events time h))
 
 -- ---- the places of a term's refusals
 
@@ -233,7 +210,7 @@ module _ (events : List Event) (day : DayNo) (time : ℕ) (lawful : AreLawful ev
 
       module _ (lo hi : ℤ) (cents : ℕ) (ends : AreIndexEnds SCALE square lo hi) (decides : Decides lo hi (decision.Cents cents)) where
         meets_all : (test : Test) → SoqMeets events 2 (opening_line events) time (certified_term a) (certified_figure square lo hi cents) test
-        meets_all Place = stands_at events time time_is
+        meets_all Place = opening_stands events time time_is
         meets_all Terms = is_expiry
         meets_all Minutes = term_meets Minutes
         meets_all Rate = term_meets Rate
