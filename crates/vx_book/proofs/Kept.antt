@@ -5,14 +5,12 @@ use Rattle.std.specs.List.{list_any}
 use Rattle.std.specs.Option.{option_or}
 use Rattle.std.proofs.lemmas.Bool.{and_parts, eq-eqb, eqb-true}
 use Rattle.vx_clock.specs.declared.terms.Expiry.{Expiry}
-use Rattle.vx_clock.specs.declared.terms.Root.{Root}
-use Rattle.vx_clock.specs.declared.terms.Root.TheVariants.{Spx, Spxw}
 use Rattle.vx_symbol.specs.declared.symbols.Side.{Side}
 use Rattle.vx_symbol.specs.declared.symbols.Side.TheVariants.{Call, Put}
 use Rattle.vx_symbol.specs.declared.symbols.Symbol.{Symbol}
 use Rattle.vx_feed.specs.declared.events.Event.{Event}
 use Rattle.vx_feed.specs.declared.events.Event.TheVariants as event
-use Rattle.vx_feed.specs.Same.{is_same_expiry, is_same_root, is_same_series, is_same_side}
+use Rattle.vx_feed.specs.Same.{is_same_expiry, is_same_series, is_same_side}
 use Rattle.vx_feed.specs.Standing.{BidAsk, is_opening, lists_series, opening_trade, quote_of, standing_quote, trade_of}
 use Rattle.vx_feed.specs.Listed.{expiry_of, is_listed, opposite, other_side, quoted_price, standing_price}
 use Rattle.vx_feed.specs.Next.{quote_after, trade_after}
@@ -86,12 +84,6 @@ listed_by xs tables events s None h = h
 listed_by xs tables events s (Some one) h = h.listed
 
 -- ---- the same series, and the one on the other side
-
-root_from_same : (a b : Root) → is_same_root a b ≡ true → a ≡ b
-root_from_same Spx Spx h = refl
-root_from_same Spx Spxw h = cc
-root_from_same Spxw Spx h = cc
-root_from_same Spxw Spxw h = refl
 
 side_from_same : (a b : Side) → is_same_side a b ≡ true → a ≡ b
 side_from_same Call Call h = refl

@@ -17,8 +17,8 @@ use Rattle.vx_feed.specs.declared.events.Event.TheVariants as event
 use Rattle.vx_feed.specs.Same.{is_same_expiry}
 use Rattle.vx_feed.specs.Standing.{is_opening, lists_series, quote_of, rate_of, standing_rate, trade_of}
 use Rattle.vx_feed.specs.Listed.{declared_expiries, declared_expiry, header_day, is_declared, is_listed, listed_rows, listed_strike, other_side, series_at, trade_date}
-use Rattle.vx_feed.specs.Order.{is_misplaced}
 use Rattle.vx_feed.proofs.NextEvent.{next_declared, next_rate, next_trade_date, option_or-none}
+use Rattle.vx_feed.proofs.FaultLemmas.{header_first}
 use Rattle.vx_feed.proofs.NoCauses.{no_causes}
 use Rattle.vx_feed.proofs.SameLemmas.{expiry_from_same}
 use Rattle.vx_book.specs.declared.book.Book.{Book}
@@ -97,10 +97,6 @@ stands_quiet old events e day quiet day_is h = record {
       (says_nothing s events e (quiet.lists s) (quiet.lists (other_side s)) (quiet.quotes s) (quiet.trades s)) (h.series s);
   orderly = orderly_next events e (few_still events e quiet.strikes h.orderly) (λ x none. quiet.rates x) h.orderly;
 }
-
-header_first : (before : List Event) (day : DayNo) → is_misplaced before (event.Header day) ≡ false → trade_date before ≡ None
-header_first [] day h = refl
-header_first (e ∷ events) day h = cc
 
 pub stands_header : (old : Book) (day : DayNo) → MayApply old (event.Header day) → (events : List Event) → StandsFor old events
     → StandsFor (counted (with_day (Some day) old)) (events ++ event.Header day ∷ [])

@@ -1,9 +1,10 @@
 -- The book after a series is listed, quoted or traded, and after the opening.
-use Rattle.std.proofs.Common.{◌≡◌, ◌∙◌, sym, ap, subst, refl, inl, inr, ℕ, ℤ, ◌+◌, ◌<◌, Bool, true, false, cond, ◌&&◌, ◌||◌, List, [], ◌∷◌, ◌++◌, length, set, Option, Some, None, arith}
+use Rattle.std.proofs.Common.{◌≡◌, ◌∙◌, sym, ap, subst, refl, inl, inr, ℕ, ℤ, ◌+◌, ◌<◌, true, false, cond, ◌&&◌, ◌||◌, List, [], ◌∷◌, ◌++◌, length, set, Option, Some, None, arith}
 use Rattle.std.specs.Prelude.{IfSome, IsSomeAnd, MatchOption, is_some, slice_get, option_map, option_and_then}
 use Rattle.std.specs.List.{All, list_any, position}
 use Rattle.std.specs.Option.{option_or}
 use Rattle.std.proofs.lemmas.Bool.{and_right, cases_Bool, cases_eq, not-false}
+use Rattle.std.proofs.Math.Bool.{or-true}
 use Rattle.std.proofs.lemmas.List.{length-map, length-set, length_push}
 use Rattle.std.proofs.lemmas.Option.{slice_get-map, slice_get_within}
 use Rattle.vx_clock.specs.declared.terms.Expiry.{Expiry}
@@ -20,6 +21,7 @@ use Rattle.vx_feed.specs.Same.{is_same_expiry, is_same_series}
 use Rattle.vx_feed.specs.Standing.{is_opening, lists_series, opening_trade, standing_rate}
 use Rattle.vx_feed.specs.Listed.{expiry_of, is_declared, is_listed, is_strike_listed, listed_rows, no_price, other_side, quoted_price, series_at, standing_price}
 use Rattle.vx_feed.proofs.NextEvent.{next_listed, unlisted_has_none}
+use Rattle.vx_feed.proofs.NextRows.{sides_without}
 use Rattle.vx_feed.proofs.NoCauses.{no_causes}
 use Rattle.vx_feed.proofs.SameLemmas.{expiry_from_same}
 use Rattle.vx_book.specs.declared.book.Book.{Book}
@@ -62,11 +64,7 @@ orderly_listed book s may events h =
 
 now_listed : (s : Symbol) (events : List Event) → is_listed s (events ++ event.Series s ∷ []) ≡ true
 now_listed s events =
-    next_listed s events (event.Series s) ∙ ap (λ b. is_listed s events || b) (series_itself s) ∙ or_true (is_listed s events)
-  where
-    or_true : (b : Bool) → (b || true) ≡ true
-    or_true true = refl
-    or_true false = refl
+    next_listed s events (event.Series s) ∙ ap (λ b. is_listed s events || b) (series_itself s) ∙ or-true (is_listed s events)
 
 -- a series that was not listed has no trade and no price
 first_trade : (s : Symbol) (events : List Event) → is_listed s events ≡ false → None ≡ opening_trade s (events ++ event.Series s ∷ [])
@@ -290,10 +288,6 @@ stands_refused old new i table next there same tables_are series_are events h =
     }
 
 -- ---- a quote
-
-sides_without : (f : Side → Bool) (side : Side) → f side ≡ false → (f Put && f Call) ≡ false
-sides_without f Put h = ap (λ b. b && f Call) h
-sides_without f Call h = and_right (f Put) (f Call) h
 
 -- a strike has no row while a series of it is not listed
 no_row_without : (s : Symbol) (events : List Event) → is_listed s events ≡ false → is_strike_listed (expiry_of s) events s.strike ≡ false

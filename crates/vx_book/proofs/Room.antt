@@ -1,9 +1,8 @@
--- How many strikes an expiry has, and what an event that is lawful next says of it.
-use Rattle.std.proofs.Common.{◌≡◌, ◌∙◌, sym, ap, subst, refl, inl, inr, ℕ, ◌+◌, ◌<◌, ◌≤◌, Bool, true, false, cond, not, ◌&&◌, ◌||◌, ◌==◌, List, [], ◌∷◌, ◌++◌, length, Some, None, arith}
-use Rattle.std.specs.Prelude.{nat_le}
+-- How many strikes an expiry has after an event that is lawful next.
+use Rattle.std.proofs.Common.{◌≡◌, ◌∙◌, sym, ap, subst, refl, inl, inr, ℕ, ◌+◌, ◌<◌, ◌≤◌, Bool, true, false, cond, ◌||◌, ◌==◌, List, [], ◌∷◌, ◌++◌, length, Some, None, arith}
 use Rattle.std.specs.List.{list_any}
 use Rattle.std.specs.Option.{option_to_list}
-use Rattle.std.proofs.lemmas.Bool.{cases_Bool, cases_order, eq-eqb, eqb-true, leb-false, ne_eqb, or_parts}
+use Rattle.std.proofs.lemmas.Bool.{cases_Bool, cases_order, eq-eqb, eqb-true, ne_eqb, or_parts}
 use Rattle.std.proofs.lemmas.List.Folds.{list_any-append}
 use Rattle.vx_clock.specs.declared.terms.Expiry.{Expiry}
 use Rattle.vx_symbol.specs.declared.limits.TheConstants.{ROWS_MAX}
@@ -11,25 +10,18 @@ use Rattle.vx_symbol.specs.declared.symbols.Side.TheVariants.{Put}
 use Rattle.vx_symbol.specs.declared.symbols.Symbol.{Symbol}
 use Rattle.vx_feed.specs.declared.events.Event.{Event}
 use Rattle.vx_feed.specs.declared.events.Event.TheVariants as event
-use Rattle.vx_feed.specs.declared.limits.TheConstants.{LINES_MAX}
 use Rattle.vx_feed.specs.Same.{is_same_expiry}
 use Rattle.vx_feed.specs.Standing.{rate_of}
 use Rattle.vx_feed.specs.Listed.{declared_expiries, declared_expiry, expiry_of, insert_strike, is_declared, is_listed, listed_strike, other_side, series_at, strikes_of, with_strike}
-use Rattle.vx_feed.specs.Order.{IsLawfulNext, has_too_many_expiries, has_too_many_strikes, is_too_many}
+use Rattle.vx_feed.specs.Order.{IsLawfulNext}
 use Rattle.vx_feed.proofs.NextEvent.{next_declared, next_strikes}
+use Rattle.vx_feed.proofs.FaultLemmas.{room_for_strike}
 use Rattle.vx_feed.proofs.NoCauses.{no_causes}
 use Rattle.vx_feed.proofs.SameLemmas.{expiry_from_same}
 use Rattle.vx_feed.proofs.StrikeLemmas.{has_strike, has-strike_of, length-strike_more}
 use Rattle.vx_book.specs.StandsFor.{AreOrderly}
 use Rattle.vx_feed.proofs.RisingStrikes.{RisesFrom, strikes_rise}
 use Rattle.vx_book.proofs.Quiet.{rate_same, strikes_same}
-
--- ---- what an event that is lawful next says of numbers
-
-few_strikes : (before : List Event) (e : Event) → is_too_many before e ≡ false → has_too_many_strikes before e ≡ false
-few_strikes before e h =
-    let more = or_parts (has_too_many_expiries before e || has_too_many_strikes before e) (nat_le LINES_MAX (length before)) h in
-    (or_parts (has_too_many_expiries before e) (has_too_many_strikes before e) more.0).1
 
 -- ---- rising strikes that are the same ones
 
@@ -77,14 +69,6 @@ strikes_alike x a b same =
 
 -- ---- one strike more
 
-room_step : (has : Bool) (n : ℕ) → has ≡ false → (nat_le ROWS_MAX n && not has) ≡ false → n < ROWS_MAX
-room_step true n none h = cc
-room_step false n none h = leb-false ROWS_MAX n (and_true (nat_le ROWS_MAX n) h)
-  where
-    and_true : (b : Bool) → (b && true) ≡ false → b ≡ false
-    and_true true h = h
-    and_true false h = refl
-
 more_step : (has : Bool) (n m : ℕ) → n ≤ ROWS_MAX → (has ≡ false → n < ROWS_MAX) → m ≡ n + cond has 0 1 → m ≤ ROWS_MAX
 more_step true n m few room is = omega arith
 more_step false n m few room is = let less = room refl in omega arith
@@ -100,10 +84,9 @@ few_with_series x events lawful s same next few =
       | inl own ↦
           let is : x ≡ expiry_of s = expiry_from_same x (expiry_of s) own in
           let alike : ks ≡ strikes_of (expiry_of s) lawful = strikes_alike x events lawful same ∙ ap (λ y. strikes_of y lawful) is in
-          let passed = few_strikes lawful (event.Series s) (no_causes lawful (event.Series s) next.in_order).few in
           let room : has_strike s.strike ks ≡ false → length ks < ROWS_MAX = λ new.
-          room_step (has_strike s.strike ks) (length ks) new
-          (ap (λ l. nat_le ROWS_MAX (length l) && not (has_strike s.strike l)) alike ∙ passed) in
+          subst (λ (l : List ℕ). length l < ROWS_MAX) (sym alike)
+          (room_for_strike lawful s (no_causes lawful (event.Series s) next.in_order).few (sym (ap (has_strike s.strike) alike) ∙ new)) in
           subst Few (sym (next_strikes x events (event.Series s) ∙ ap (λ b. with_strike (cond b (Some s.strike) None) ks) own))
           (more_step (has_strike s.strike ks) (length ks) (length (insert_strike s.strike ks)) few room (length-strike_more x s.strike events))
     ]

@@ -4,6 +4,7 @@ use Rattle.std.specs.List.{slice_get, list_any}
 use Rattle.std.proofs.lemmas.List.Folds.{list_any-append}
 use Rattle.std.proofs.lemmas.Option.{same_Some}
 use Rattle.std.proofs.lemmas.Bool.{cond-true}
+use Rattle.std.proofs.Math.Bool.{or-true}
 use Rattle.vx_clock.specs.declared.days.DayNo.{DayNo}
 use Rattle.vx_clock.specs.declared.terms.Expiry.{Expiry}
 use Rattle.vx_feed.specs.declared.events.Event.{Event}
@@ -32,12 +33,8 @@ use Rattle.vx_check.specs.Reached.{IsAtOpening}
 any_more : (xs ys : List Event) → list_any is_opening xs ≡ true → list_any is_opening (xs ++ ys) ≡ true
 any_more xs ys h = list_any-append is_opening xs ys ∙ ap (λ b. b || list_any is_opening ys) h
 
-or_true : (b : Bool) → (b || true) ≡ true
-or_true true = refl
-or_true false = refl
-
 any_last : (xs : List Event) (time : ℕ) → list_any is_opening (xs ++ event.Opening time ∷ []) ≡ true
-any_last xs time = list_any-append is_opening xs (event.Opening time ∷ []) ∙ or_true (list_any is_opening xs)
+any_last xs time = list_any-append is_opening xs (event.Opening time ∷ []) ∙ or-true (list_any is_opening xs)
 
 -- none comes after one
 no_second : (before events : List Event) (n time : ℕ) → list_any is_opening before ≡ true → AreLawfulAfter before events

@@ -2,6 +2,7 @@
 use Rattle.std.proofs.Common.{◌≡◌, ◌≢◌, ℕ, Bool, true, false, cond, ◌&&◌, ◌||◌, ◌==◌, List, [], ◌∷◌, ◌++◌, Option, Some, None, refl, sym, ◌∙◌, ap, subst, inl, inr}
 use Rattle.std.specs.Prelude.{option_map}
 use Rattle.std.proofs.lemmas.Bool.{cases_eq, ne_eqb, eq-eqb}
+use Rattle.std.proofs.Math.Bool.{and-false, and-true, or-false, or-true}
 use Rattle.vx_clock.specs.declared.terms.Expiry.{Expiry}
 use Rattle.vx_symbol.specs.declared.symbols.Side.{Side}
 use Rattle.vx_symbol.specs.declared.symbols.Side.TheVariants.{Call, Put}
@@ -15,6 +16,7 @@ use Rattle.vx_feed.specs.Standing.{BidAsk, if_standing, lists_series, quote_of, 
 use Rattle.vx_feed.specs.Listed.{expiry_of, is_listed, listed_rows, no_price, quoted_price, series_at, standing_price}
 use Rattle.vx_feed.specs.Next.{quote_after}
 use Rattle.vx_feed.proofs.NextEvent.{next_listed, next_quote, unlisted_has_none}
+use Rattle.vx_feed.proofs.NextRows.{apart_series}
 use Rattle.vx_check.specs.declared.table.Half.{Half}
 use Rattle.vx_check.specs.Rising.{Rises, item_at, IsWith}
 use Rattle.vx_check.specs.Tables.{row_strike, half_strike, price_of, row_when_listed, half_when_listed, row_with_price, half_when_quoted, ListsSeries, SetsPrice}
@@ -66,20 +68,12 @@ half_says x events k lp lc pp pc h = four (only_side k) _ lp _ lc _ pp _ pc h.pu
 
 -- ---- one series after one more event
 
-or_false : (b : Bool) → (b || false) ≡ b
-or_false true = refl
-or_false false = refl
-
-or_true : (b : Bool) → (b || true) ≡ true
-or_true true = refl
-or_true false = refl
-
 after_none : (b : Bool) (q : Option BidAsk) → quote_after b q None ≡ q
 after_none true q = refl
 after_none false q = refl
 
 listed_as_before : (t : Symbol) (events : List Event) (e : Event) → lists_series t e ≡ false → is_listed t (events ++ e ∷ []) ≡ is_listed t events
-listed_as_before t events e h = next_listed t events e ∙ ap (λ b. is_listed t events || b) h ∙ or_false (is_listed t events)
+listed_as_before t events e h = next_listed t events e ∙ ap (λ b. is_listed t events || b) h ∙ or-false (is_listed t events)
 
 price_as_before : (t : Symbol) (events : List Event) (e : Event) → quote_of t e ≡ None → standing_price (events ++ e ∷ []) t ≡ standing_price events t
 price_as_before t events e h =
@@ -111,27 +105,14 @@ keeps_quiet x events e rows halves quiet h =
 
 -- ---- a series of the expiry and one at the same strike
 
-and_false : (a : Bool) → (a && false) ≡ false
-and_false true = refl
-and_false false = refl
-
 own_series : (s : Symbol) (side : Side) (k : ℕ) → is_same_series (series_at (expiry_of s) side k) s ≡ (is_same_side side s.side && (k == s.strike))
 own_series s side k = let r = root_self s.root in let d = number_self s.date.0 in rw (r, d) refl
 
 pub other_strike : (s : Symbol) (side : Side) (k : ℕ) → k ≢ s.strike → is_same_series (series_at (expiry_of s) side k) s ≡ false
-other_strike s side k ne = own_series s side k ∙ ap (λ b. is_same_side side s.side && b) (ne_eqb k s.strike ne) ∙ and_false (is_same_side side s.side)
+other_strike s side k ne = own_series s side k ∙ ap (λ b. is_same_side side s.side && b) (ne_eqb k s.strike ne) ∙ and-false (is_same_side side s.side)
 
 pub same_strike : (s : Symbol) (side : Side) → is_same_series (series_at (expiry_of s) side s.strike) s ≡ is_same_side side s.side
-same_strike s side = own_series s side s.strike ∙ ap (λ b. is_same_side side s.side && b) (eq-eqb s.strike s.strike refl) ∙ and_true (is_same_side side s.side) where
-  and_true : (a : Bool) → (a && true) ≡ a
-  and_true true = refl
-  and_true false = refl
-
-pub apart_series : (x : Expiry) (s : Symbol) (side : Side) (k : ℕ) → is_same_expiry x (expiry_of s) ≡ false → is_same_series (series_at x side k) s ≡ false
-apart_series x s side k h = false_first (is_same_expiry x (expiry_of s)) (is_same_side side s.side) (k == s.strike) h where
-  false_first : (a b c : Bool) → a ≡ false → (a && b && c) ≡ false
-  false_first true b c e = absurd (cc e)
-  false_first false b c e = refl
+same_strike s side = own_series s side s.strike ∙ ap (λ b. is_same_side side s.side && b) (eq-eqb s.strike s.strike refl) ∙ and-true (is_same_side side s.side)
 
 some_if : (b : Bool) (q : BidAsk) → b ≡ false → cond b (Some q) None ≡ None
 some_if true q h = absurd (cc h)
@@ -209,7 +190,7 @@ module _ (x : Expiry) (k : ℕ) (events : List Event) where
   listed_now : (side : Side) → is_listed (series_at x side k) (events ++ event.Series (series_at x side k) ∷ []) ≡ true
   listed_now side =
       next_listed (series_at x side k) events (event.Series (series_at x side k))
-      ∙ ap (λ b. listed side || b) (same_strike (series_at x side k) side ∙ side_self side) ∙ or_true (listed side) where
+      ∙ ap (λ b. listed side || b) (same_strike (series_at x side k) side ∙ side_self side) ∙ or-true (listed side) where
         side_self : (side : Side) → is_same_side side side ≡ true
         side_self Put = refl
         side_self Call = refl

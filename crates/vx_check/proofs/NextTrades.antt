@@ -30,7 +30,8 @@ use Rattle.vx_check.specs.StandsFor.{AreFirstTrades, only_side, listed_half}
 use Rattle.vx_check.specs.NextRows.{both_sides, listed_row}
 use Rattle.vx_check.proofs.Rising.{with_same}
 use Rattle.vx_check.proofs.TableLists.{same_expiry}
-use Rattle.vx_check.proofs.NextSeries.{Keeps, apart_series, other_strike, row_item, rows_rise, same_strike}
+use Rattle.vx_feed.proofs.NextRows.{apart_series}
+use Rattle.vx_check.proofs.NextSeries.{Keeps, other_strike, row_item, rows_rise, same_strike}
 use Rattle.vx_check.proofs.NextTables.{AllSay, Says}
 
 -- ---- whether a series is listed

@@ -1,36 +1,21 @@
 -- The book of one event more.
-use Rattle.std.proofs.Common.{◌≡◌, ◌+◌, ◌<◌, Bool, true, false, cond, ◌||◌, nat_le, List, [], ◌∷◌, ◌++◌, length, Option, Some, None, option_to_list, refl, sym, ◌∙◌, ap, leb-false, length-append}
-use Rattle.std.specs.List.{AllByRecursion}
+use Rattle.std.proofs.Common.{◌≡◌, ◌+◌, ◌<◌, true, false, List, [], ◌∷◌, ◌++◌, length, Option, Some, None, option_to_list, refl, sym, ◌∙◌, ap, length-append}
 use Rattle.std.specs.Option.{option_or}
 use Rattle.vx_feed.specs.declared.events.Event.{Event}
 use Rattle.vx_feed.specs.declared.events.Event.TheVariants as event
-use Rattle.vx_feed.specs.declared.faults.FeedFault.{FeedFault}
 use Rattle.vx_feed.specs.declared.limits.TheConstants.{LINES_MAX}
 use Rattle.vx_feed.specs.Listed.{trade_date, header_day, declared_expiries, declared_expiry}
-use Rattle.vx_feed.specs.Order.{IsLawfulNext, first_fault, order_causes, is_header, is_misplaced, has_too_many_expiries, has_too_many_strikes, is_undeclared, is_duplicate_series, is_second_opening}
+use Rattle.vx_feed.specs.Order.{IsLawfulNext, is_header, is_misplaced, is_undeclared, is_duplicate_series, is_second_opening}
+use Rattle.vx_feed.proofs.FaultLemmas.{few_lines}
 use Rattle.vx_feed.proofs.NextEvent.{next_trade_date, next_declared}
+use Rattle.vx_feed.proofs.NoCauses.{no_causes}
 use Rattle.vx_check.specs.StandsFor.{last_event}
 
 -- ---- what a lawful event says
 
-cause_fails : (b : Bool) (fault : FeedFault) (rest : Option FeedFault) → cond b (Some fault) rest ≡ None → (b ≡ false) × (rest ≡ None)
-cause_fails true fault rest e = absurd cc
-cause_fails false fault rest e = (refl, e)
-
-last_fails : (a b : Bool) → (a || b) ≡ false → b ≡ false
-last_fails true b e = absurd cc
-last_fails false b e = e
-
-no_cause : (causes : List (Bool × FeedFault)) → first_fault causes ≡ None → AllByRecursion (λ c. c.0 ≡ false) causes
-no_cause [] e = tt
-no_cause (c ∷ causes) e = let r = cause_fails c.0 c.1 (first_fault causes) e in (r.0, no_cause causes r.1)
-
 -- a feed has room for one line more
 pub one_line_more : (events : List Event) (e : Event) → IsLawfulNext events e → length events < LINES_MAX
-one_line_more events e h =
-    let causes = no_cause (order_causes events e) h.in_order in
-    let not_many = causes.1.1.1.1.1.1.0 in
-    leb-false LINES_MAX (length events) (last_fails (has_too_many_expiries events e || has_too_many_strikes events e) (nat_le LINES_MAX (length events)) not_many)
+one_line_more events e h = few_lines events e (no_causes events e h.in_order).few
 
 first_is_empty : (events : List Event) (e : Event) → is_header e ≡ true → is_misplaced events e ≡ false → events ≡ []
 first_is_empty [] e t h = refl
@@ -38,19 +23,19 @@ first_is_empty (y ∷ ys) e t h = absurd (cc (sym t ∙ h))
 
 -- a header comes first alone
 pub header_is_first : (events : List Event) (e : Event) → is_header e ≡ true → IsLawfulNext events e → events ≡ []
-header_is_first events e t h = first_is_empty events e t (no_cause (order_causes events e) h.in_order).0
+header_is_first events e t h = first_is_empty events e t (no_causes events e h.in_order).placed
 
 -- a rate or a series is of a declared expiry
 pub not_undeclared : (events : List Event) (e : Event) → IsLawfulNext events e → is_undeclared events e ≡ false
-not_undeclared events e h = (no_cause (order_causes events e) h.in_order).1.1.1.1.1.0
+not_undeclared events e h = (no_causes events e h.in_order).declared
 
 -- no series is listed twice
 pub not_duplicate : (events : List Event) (e : Event) → IsLawfulNext events e → is_duplicate_series events e ≡ false
-not_duplicate events e h = (no_cause (order_causes events e) h.in_order).1.1.1.1.0
+not_duplicate events e h = (no_causes events e h.in_order).new_series
 
 -- no opening is taken twice
 pub not_second : (events : List Event) (e : Event) → IsLawfulNext events e → is_second_opening events e ≡ false
-not_second events e h = (no_cause (order_causes events e) h.in_order).1.1.1.1.1.1.1.1.1.0
+not_second events e h = (no_causes events e h.in_order).first_opening
 
 -- ---- the parts after one event more
 

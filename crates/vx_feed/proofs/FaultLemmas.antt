@@ -14,7 +14,7 @@ use Rattle.vx_feed.specs.declared.limits.TheConstants.{LINES_MAX, STRIKES_MAX}
 use Rattle.vx_feed.specs.declared.order.Order.{Order}
 use Rattle.vx_feed.specs.Same.{is_same_expiry, is_same_series}
 use Rattle.vx_feed.specs.Listed.{expiry_of, is_declared, is_listed, other_side, strikes_of, trade_date}
-use Rattle.vx_feed.specs.Order.{first_fault, has_too_many_expiries, has_too_many_strikes, is_after_end, is_duplicate_expiry, is_duplicate_series, is_misplaced, is_other_count, is_out_of_days, is_second_opening, is_time_back, is_too_many, is_undeclared, order_causes, order_fault}
+use Rattle.vx_feed.specs.Order.{first_fault, has_too_many_expiries, has_too_many_strikes, is_after_end, is_duplicate_expiry, is_duplicate_series, is_misplaced, is_other_count, is_out_of_days, is_second_opening, is_time_back, is_too_many, is_undeclared, order_fault}
 use Rattle.vx_feed.specs.Noted.{CanList, CanTake, MayNote, StandsFor, is_new_strike, keeps, kept_strikes}
 use Rattle.vx_feed.proofs.StrikeLemmas.{has_strike, has-strike_of}
 use Rattle.vx_feed.proofs.KeptLemmas.{any-kept}
@@ -52,12 +52,13 @@ same_causes before e a b c d f g h i j k pa pb pc pd pf pg ph pi pj pk =
 
 -- ---- no fault
 
--- a header is the first line
-header_first : (before : List Event) (day : DayNo) → is_misplaced before (event.Header day) ≡ false → trade_date before ≡ None
+-- a header that is not misplaced is the first line, so that no trade date stands
+pub header_first : (before : List Event) (day : DayNo) → is_misplaced before (event.Header day) ≡ false → trade_date before ≡ None
 header_first [] day h = refl
 header_first (e ∷ events) day h = cc
 
-few_lines : (before : List Event) (e : Event) → is_too_many before e ≡ false → length before < LINES_MAX
+-- there is room for the line of an event that is not too many
+pub few_lines : (before : List Event) (e : Event) → is_too_many before e ≡ false → length before < LINES_MAX
 few_lines before e h =
     leb-false LINES_MAX (length before)
     (or_parts (has_too_many_expiries before e || has_too_many_strikes before e) (nat_le LINES_MAX (length before)) h).1
@@ -74,6 +75,13 @@ room_step false n none h = leb-false STRIKES_MAX n (and_true (nat_le STRIKES_MAX
     and_true : (b : Bool) → (b && true) ≡ false → b ≡ false
     and_true true h = h
     and_true false h = refl
+
+-- and there is room for the strike of a series that is not too many, where the strike is new
+pub room_for_strike : (before : List Event) (s : Symbol) → is_too_many before (event.Series s) ≡ false
+    → has_strike s.strike (strikes_of (expiry_of s) before) ≡ false → length (strikes_of (expiry_of s) before) < STRIKES_MAX
+room_for_strike before s few new =
+    let strikes = strikes_of (expiry_of s) before in
+    room_step (has_strike s.strike strikes) (length strikes) new (few_strikes before (event.Series s) few)
 
 pub declared_by : (order : Order) (events : List Event) (x : Expiry) → StandsFor order events → list_any (keeps x) order.expiries.items ≡ is_declared x events
 declared_by order events x stands = any-kept x order.expiries.items ∙ ap (list_any (is_same_expiry x)) stands.expiries
@@ -93,8 +101,7 @@ can_list order events s stands pass = record {
   declared = declared_by order events (expiry_of s) stands ∙ not-false (is_declared (expiry_of s) events) pass.declared;
   room = λ other.
       let room : length (strikes_of (expiry_of s) events) < STRIKES_MAX =
-      room_step (has_strike s.strike (strikes_of (expiry_of s) events)) (length (strikes_of (expiry_of s) events))
-      (unlisted_strike order events s stands pass.new_series other) (few_strikes events (event.Series s) pass.few) in
+      room_for_strike events s pass.few (unlisted_strike order events s stands pass.new_series other) in
       let same : kept_strikes (expiry_of s) order.expiries.items ≡ length (strikes_of (expiry_of s) events) = stands.strikes (expiry_of s) in
       omega arith;
 }

@@ -4,6 +4,7 @@ use Rattle.std.specs.Prelude.{nat_lt}
 use Rattle.std.specs.List.{filter}
 use Rattle.std.proofs.lemmas.Bool.{and_parts, cases_Bool, cases_eq, ne_eqb, eq-eqb}
 use Rattle.std.proofs.lemmas.Bool.Decides.{nat_tests}
+use Rattle.std.proofs.Math.Bool.{and-false, and-true, or-true}
 use Rattle.vx_clock.specs.declared.terms.Expiry.{Expiry}
 use Rattle.vx_symbol.specs.declared.symbols.Side.{Side}
 use Rattle.vx_symbol.specs.declared.symbols.Side.TheVariants.{Call, Put}
@@ -113,42 +114,31 @@ strikes_quiet x events e none quiet =
 
 -- ---- a series is listed
 
-and_false : (a : Bool) → (a && false) ≡ false
-and_false true = refl
-and_false false = refl
-
-or_true : (a : Bool) → (a || true) ≡ true
-or_true true = refl
-or_true false = refl
-
-apart_series : (x : Expiry) (s : Symbol) (side : Side) (k : ℕ) → is_same_expiry x (expiry_of s) ≡ false → is_same_series (series_at x side k) s ≡ false
+-- a series of another expiry is another series
+pub apart_series : (x : Expiry) (s : Symbol) (side : Side) (k : ℕ) → is_same_expiry x (expiry_of s) ≡ false → is_same_series (series_at x side k) s ≡ false
 apart_series x s side k h = ap (λ b. b && is_same_side side s.side && (k == s.strike)) h
 
 other_strike : (x : Expiry) (s : Symbol) (side : Side) (k : ℕ) → k ≢ s.strike → is_same_series (series_at x side k) s ≡ false
 other_strike x s side k ne =
-    ap (λ b. is_same_expiry x (expiry_of s) && is_same_side side s.side && b) (ne_eqb k s.strike ne) ∙ and_false (is_same_expiry x (expiry_of s) && is_same_side side s.side)
+    ap (λ b. is_same_expiry x (expiry_of s) && is_same_side side s.side && b) (ne_eqb k s.strike ne) ∙ and-false (is_same_expiry x (expiry_of s) && is_same_side side s.side)
 
 own_strike : (x : Expiry) (s : Symbol) (side : Side) → is_same_expiry x (expiry_of s) ≡ true → is_same_series (series_at x side s.strike) s ≡ is_same_side side s.side
 own_strike x s side h =
     ap (λ b. b && is_same_side side s.side && (s.strike == s.strike)) h
-    ∙ ap (λ b. is_same_side side s.side && b) (eq-eqb s.strike s.strike refl) ∙ and_true (is_same_side side s.side)
-  where
-    and_true : (a : Bool) → (a && true) ≡ a
-    and_true true = refl
-    and_true false = refl
+    ∙ ap (λ b. is_same_side side s.side && b) (eq-eqb s.strike s.strike refl) ∙ and-true (is_same_side side s.side)
 
 -- one side is listed now, by the sides listed before
 sides_after : (listed : Side → Bool) (side : Side) → ((listed Put || is_same_side Put side) && (listed Call || is_same_side Call side)) ≡ listed (opposite side)
-sides_after listed Put = ap (λ b. b && (listed Call || false)) (or_true (listed Put)) ∙ or-false (listed Call)
-sides_after listed Call = ap (λ b. (listed Put || false) && b) (or_true (listed Call)) ∙ and_yes (listed Put) where
+sides_after listed Put = ap (λ b. b && (listed Call || false)) (or-true (listed Put)) ∙ or-false (listed Call)
+sides_after listed Call = ap (λ b. (listed Put || false) && b) (or-true (listed Call)) ∙ and_yes (listed Put) where
   and_yes : (a : Bool) → ((a || false) && true) ≡ a
   and_yes true = refl
   and_yes false = refl
 
--- one side is not listed
-sides_without : (listed : Side → Bool) (side : Side) → listed side ≡ false → (listed Put && listed Call) ≡ false
+-- where one side is not listed, not both are
+pub sides_without : (listed : Side → Bool) (side : Side) → listed side ≡ false → (listed Put && listed Call) ≡ false
 sides_without listed Put h = ap (λ b. b && listed Call) h
-sides_without listed Call h = ap (λ b. listed Put && b) h ∙ and_false (listed Put)
+sides_without listed Call h = ap (λ b. listed Put && b) h ∙ and-false (listed Put)
 
 module _ (x : Expiry) (events : List Event) (s : Symbol) (own : is_same_expiry x (expiry_of s) ≡ true) where
   abbrev listed_at : Side → Bool
