@@ -13,7 +13,6 @@ pub mod Terms
 -- the minutes of picked terms
 pub mod PickedMinutes
 -- which expiries are picked
-pub mod BestOf
 pub mod Picks
 -- the printed ends of the index
 pub mod IndexEnds

@@ -1,32 +1,22 @@
 -- One of the expiries is the near term, or none is in its window; and so for the next term.
-use Rattle.std.proofs.Common.{◌≡◌, ◌∙◌, sym, refl, ℕ, ◌+◌, ◌≤◌, ◌⊎◌, inl, inr, ℤ, pos, ◌+ℤ◌, ◌≤ℤ◌, ◌<ℤ◌, arith}
-use Rattle.std.proofs.lemmas.Bool.{cases_lt}
-use Rattle.std.proofs.lemmas.Int.{ints, by_lt_z}
+use Rattle.std.proofs.Common.{◌≡◌, sym, ℕ, ◌+◌, ◌⊎◌, inl, inr, ℤ, pos, ◌+ℤ◌, ◌≤ℤ◌, ◌<ℤ◌, arith}
+use Rattle.std.proofs.lemmas.Int.{ints}
 use Rattle.vx_clock.specs.declared.days.DayNo.{DayNo}
 use Rattle.vx_clock.specs.declared.terms.Expiry.{Expiry}
 use Rattle.vx_clock.specs.Minutes.{days_until}
 use Rattle.vx_clock.specs.Terms.{IsInNearWindow, IsInNextWindow, root_rank, IsTakenBeforeAsNear, IsTakenBeforeAsNext}
+use Rattle.vx_clock.proofs.TermOrder.{near-reflexive, near-transitive, next-reflexive, next-transitive}
 use Rattle.vx_formula.proofs.Lists.{in_from_contains, contains_from_in}
 use Rattle.vx_accepted.specs.Picked.{NearIsPickedOrNone, NextIsPickedOrNone}
-use Rattle.vx_accepted.proofs.BestOf.{best_or_none}
+use Rattle.vx_formula.proofs.BestOf.{best_or_none}
+use Rattle.vx_formula.proofs.Comparisons.{at_most_or_not, below_or_not, less_or_at_most, rising_total}
 
--- ---- tests of numbers
-
-less_or_not : (a b : ℤ) → (a <ℤ b) ⊎ (b ≤ℤ a)
-less_or_not a b = by_lt_z a b (λ less. inl less) (λ more. inr more)
+-- ---- windows
 
 both_or_not : (A B : Type 0) → (A ⊎ ¬ A) → (B ⊎ ¬ B) → (A × B) ⊎ ¬ (A × B)
 both_or_not A B (inl a) (inl b) = inl (a, b)
 both_or_not A B (inr a) other = inr (λ h. a h.0)
 both_or_not A B (inl a) (inr b) = inr (λ h. b h.1)
-
-at_most_or_not : (a b : ℤ) → (a ≤ℤ b) ⊎ ¬ (a ≤ℤ b)
-at_most_or_not a b = elim (less_or_not b a) [ inl less ↦ inr (λ h. omega (arith, ints, less, h)) | inr most ↦ inl most ]
-
-below_or_not : (a b : ℤ) → (a <ℤ b) ⊎ ¬ (a <ℤ b)
-below_or_not a b = elim (less_or_not a b) [ inl less ↦ inl less | inr most ↦ inr (λ h. omega (arith, ints, most, h)) ]
-
--- ---- windows
 
 near_or_not : (today : DayNo) (days window : ℕ) (x : Expiry) → IsInNearWindow today days window x ⊎ ¬ IsInNearWindow today days window x
 near_or_not today days window x =
@@ -43,51 +33,36 @@ next_or_not today days window x =
 
 -- ---- which is taken before which
 
-rank_total : (a b : ℕ) → (a ≤ b) ⊎ (b ≤ a)
-rank_total a b = elim (cases_lt a b) [ inl less ↦ inl (omega (arith, less)) | inr more ↦ inr more ]
-
 near_total : (a b : Expiry) → IsTakenBeforeAsNear a b ⊎ IsTakenBeforeAsNear b a
 near_total a b =
-    elim (less_or_not b.date.0 a.date.0) [
+    elim (less_or_at_most b.date.0 a.date.0) [
       | inl later ↦ inl (inl later)
-      | inr most ↦ elim (less_or_not a.date.0 b.date.0) [
+      | inr most ↦ elim (less_or_at_most a.date.0 b.date.0) [
         | inl earlier ↦ inr (inl earlier)
         | inr least ↦
             let same : a.date.0 ≡ b.date.0 = omega (arith, ints, most, least) in
-            elim (rank_total (root_rank a.root) (root_rank b.root)) [ inl rank ↦ inl (inr (same, rank)) | inr rank ↦ inr (inr (sym same, rank)) ]
+            elim (rising_total (root_rank a.root) (root_rank b.root)) [ inl rank ↦ inl (inr (same, rank)) | inr rank ↦ inr (inr (sym same, rank)) ]
       ]
     ]
-
-near_transitive : (a b c : Expiry) → IsTakenBeforeAsNear a b → IsTakenBeforeAsNear b c → IsTakenBeforeAsNear a c
-near_transitive a b c (inl x) (inl y) = inl (omega (arith, ints, x, y))
-near_transitive a b c (inl x) (inr y) = let same = y.0 in inl (omega (arith, ints, x, same))
-near_transitive a b c (inr x) (inl y) = let same = x.0 in inl (omega (arith, ints, same, y))
-near_transitive a b c (inr x) (inr y) = let r = x.1 in let s = y.1 in inr (x.0 ∙ y.0, omega (arith, r, s))
 
 next_total : (a b : Expiry) → IsTakenBeforeAsNext a b ⊎ IsTakenBeforeAsNext b a
 next_total a b =
-    elim (less_or_not a.date.0 b.date.0) [
+    elim (less_or_at_most a.date.0 b.date.0) [
       | inl earlier ↦ inl (inl earlier)
-      | inr least ↦ elim (less_or_not b.date.0 a.date.0) [
+      | inr least ↦ elim (less_or_at_most b.date.0 a.date.0) [
         | inl later ↦ inr (inl later)
         | inr most ↦
             let same : a.date.0 ≡ b.date.0 = omega (arith, ints, most, least) in
-            elim (rank_total (root_rank a.root) (root_rank b.root)) [ inl rank ↦ inl (inr (same, rank)) | inr rank ↦ inr (inr (sym same, rank)) ]
+            elim (rising_total (root_rank a.root) (root_rank b.root)) [ inl rank ↦ inl (inr (same, rank)) | inr rank ↦ inr (inr (sym same, rank)) ]
       ]
     ]
-
-next_transitive : (a b c : Expiry) → IsTakenBeforeAsNext a b → IsTakenBeforeAsNext b c → IsTakenBeforeAsNext a c
-next_transitive a b c (inl x) (inl y) = inl (omega (arith, ints, x, y))
-next_transitive a b c (inl x) (inr y) = let same = y.0 in inl (omega (arith, ints, x, same))
-next_transitive a b c (inr x) (inl y) = let same = x.0 in inl (omega (arith, ints, same, y))
-next_transitive a b c (inr x) (inr y) = let r = x.1 in let s = y.1 in inr (x.0 ∙ y.0, omega (arith, r, s))
 
 -- ---- the picks
 
 -- one expiry is the near term, or none is in its window
 pub near_is_picked_or_none : NearIsPickedOrNone
 near_is_picked_or_none today days window expiries =
-    elim (best_or_none (IsInNearWindow today days window) IsTakenBeforeAsNear (near_or_not today days window) (λ k. inr (refl, omega arith)) near_total near_transitive expiries) [
+    elim (best_or_none (IsInNearWindow today days window) IsTakenBeforeAsNear (near_or_not today days window) near-reflexive near_total near-transitive expiries) [
       | inl found ↦ inl (
         found.0,
         record {
@@ -102,7 +77,7 @@ near_is_picked_or_none today days window expiries =
 -- and so for the next term
 pub next_is_picked_or_none : NextIsPickedOrNone
 next_is_picked_or_none today days window expiries =
-    elim (best_or_none (IsInNextWindow today days window) IsTakenBeforeAsNext (next_or_not today days window) (λ k. inr (refl, omega arith)) next_total next_transitive expiries) [
+    elim (best_or_none (IsInNextWindow today days window) IsTakenBeforeAsNext (next_or_not today days window) next-reflexive next_total next-transitive expiries) [
       | inl found ↦ inl (
         found.0,
         record {

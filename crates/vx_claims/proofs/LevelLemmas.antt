@@ -57,16 +57,16 @@ forward_at_one strike v d u e =
     omega (arith, ints, parts, inner)
 
 -- K0 * 2^P is at most F * 2^P: so K0 is at most F * v / v
-at_most_forward : (k strike v P : ℕ) (d : ℤ) → pos (k * 2 ^ P) ≤ℤ ((pos strike +ℤ pos 5 *ℤ d) *ℤ pos (2 ^ P))
+at_most_rescaled : (k strike v P : ℕ) (d : ℤ) → pos (k * 2 ^ P) ≤ℤ ((pos strike +ℤ pos 5 *ℤ d) *ℤ pos (2 ^ P))
     → (pos k *ℤ pos v) ≤ℤ ((pos strike +ℤ pos 5 *ℤ d) *ℤ pos v)
-at_most_forward k strike v P d h =
+at_most_rescaled k strike v P d h =
     let positive : 0 < 2 ^ P = pow_pos P in
     let plain : pos k ≤ℤ (pos strike +ℤ pos 5 *ℤ d) = mul_cancel (pos k) (pos strike +ℤ pos 5 *ℤ d) (pos (2 ^ P)) (omega (arith, ints)) h in
     mul_mono (pos k) (pos strike +ℤ pos 5 *ℤ d) (pos v) (omega (arith, ints)) plain
 
-below_strike : (k strike v P : ℕ) (d : ℤ) → 1 ≤ v → ((pos strike +ℤ pos 5 *ℤ d) *ℤ pos (2 ^ P)) <ℤ pos (k * 2 ^ P)
+below_rescaled : (k strike v P : ℕ) (d : ℤ) → 1 ≤ v → ((pos strike +ℤ pos 5 *ℤ d) *ℤ pos (2 ^ P)) <ℤ pos (k * 2 ^ P)
     → ((pos strike +ℤ pos 5 *ℤ d) *ℤ pos v) <ℤ (pos k *ℤ pos v)
-below_strike k strike v P d some h =
+below_rescaled k strike v P d some h =
     let positive : 0 < 2 ^ P = pow_pos P in
     let plain : (pos strike +ℤ pos 5 *ℤ d) <ℤ pos k = mul_cancel_strict (pos strike +ℤ pos 5 *ℤ d) (pos k) (pos (2 ^ P)) (omega (arith, ints)) h in
     mul_strict (pos strike +ℤ pos 5 *ℤ d) (pos k) (pos v) (omega (arith, ints)) plain
@@ -81,10 +81,10 @@ level_at_one rows pair k0 P e proper one h =
     record {
       is_listed = h.is_listed;
       at_most =
-          let low = at_most_forward k0 pair.strike v P pair.d h.at_most in
+          let low = at_most_rescaled k0 pair.strike v P pair.d h.at_most in
           omega (arith, ints, low, same);
       others_above = λ other listed above.
-          let high = below_strike other pair.strike v P pair.d proper (h.others_above other listed above) in
+          let high = below_rescaled other pair.strike v P pair.d proper (h.others_above other listed above) in
           omega (arith, ints, high, same);
     }
 

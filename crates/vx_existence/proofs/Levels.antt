@@ -1,40 +1,25 @@
 -- What two printed ends say of the level: there is such an answer for all rows and ends.
-use Rattle.std.proofs.Common.{◌≡◌, refl, sym, subst, ap, ℕ, zero, suc, ◌≤◌, ◌⊎◌, ℤ, ◌≤ℤ◌, ◌<ℤ◌, List, [], ◌∷◌, Some, slice_get, inl, inr, arith}
-use Rattle.std.proofs.lemmas.Int.{ints, by_lt_z}
-use Rattle.std.proofs.lemmas.Bool.{cases_lt}
+use Rattle.std.proofs.Common.{◌≡◌, refl, sym, subst, ap, ℕ, zero, suc, ◌≤◌, ℤ, ◌≤ℤ◌, ◌<ℤ◌, List, [], ◌∷◌, Some, slice_get, inl, inr, arith}
+use Rattle.std.proofs.lemmas.Int.{by_lt_z}
 use Rattle.vx_symbol.specs.declared.rows.StrikeRow.{StrikeRow}
 use Rattle.vx_formula.specs.Level.{strikes}
 use Rattle.vx_formula.specs.Undecided.{StrikeStraddles}
 use Rattle.vx_formula.proofs.Lists.{In, in_from_contains, contains_from_in, in_map}
 use Rattle.vx_formula.proofs.BestOf.{Best, best_or_none}
+use Rattle.vx_formula.proofs.Comparisons.{at_most_or_not, falling_total, rising_total}
 use Rattle.vx_formula.proofs.RowDecisions.{none_above_or_not}
+use Rattle.vx_formula.proofs.StrikeCases.{straddles_or_not}
 use Rattle.vx_forward.specs.Level.{in_units, HasNoneBetween, IsLevelRow, IsK0Answer}
 use Rattle.vx_forward.specs.declared.level.K0Answer.{K0Answer}
 use Rattle.vx_forward.specs.declared.level.K0Answer.TheVariants.{At, NoStrikeBelow, NoStrikeAbove, Straddle}
 
 -- ---- tests of a strike
 
-straddles_or_not : (lo hi : ℤ) (k : ℕ) → StrikeStraddles lo hi k ⊎ ¬ StrikeStraddles lo hi k
-straddles_or_not lo hi k =
-    by_lt_z lo (in_units k)
-    (λ above. by_lt_z hi (in_units k) (λ beyond. inr (λ h. let high = h.at_most in omega (arith, ints, beyond, high)))
-    (λ within. inl (record { above = above; at_most = within })))
-    (λ low. inr (λ h. let high = h.above in omega (arith, ints, low, high)))
-
 abbrev IsAtMost : ℤ → ℕ → Type 0
 IsAtMost lo k = in_units k ≤ℤ lo
 
-at_most_or_not : (lo : ℤ) (k : ℕ) → IsAtMost lo k ⊎ ¬ IsAtMost lo k
-at_most_or_not lo k = by_lt_z lo (in_units k) (λ above. inr (λ h. omega (arith, ints, above, h))) (λ low. inl low)
-
 above_if_not : (lo : ℤ) (k : ℕ) → ¬ IsAtMost lo k → lo <ℤ in_units k
 above_if_not lo k none = by_lt_z lo (in_units k) (λ above. above) (λ low. absurd (none low))
-
-order : (a b : ℕ) → (a ≤ b) ⊎ (b ≤ a)
-order a b = elim (cases_lt a b) [ inl less ↦ inl (omega (arith, less)) | inr fine ↦ inr fine ]
-
-fallen : (a b : ℕ) → (b ≤ a) ⊎ (a ≤ b)
-fallen a b = order b a
 
 -- a row of a list stands at a place
 place_of : (rows : List StrikeRow) (row : StrikeRow) → In rows row → (place : ℕ) × (slice_get rows place ≡ Some row)
@@ -76,7 +61,7 @@ module _ (rows : List StrikeRow) (lo hi : ℤ) where
 
   with_none_between : HasNoneBetween rows lo hi → Answered
   with_none_between none =
-      elim (best_or_none (IsAtMost lo) (λ a b. b ≤ a) (at_most_or_not lo) (λ k. omega arith) fallen (λ a b c h k. omega (arith, h, k)) (strikes rows)) [
+      elim (best_or_none (IsAtMost lo) (λ a b. b ≤ a) (λ k. at_most_or_not (in_units k) lo) (λ k. omega arith) falling_total (λ a b c h k. omega (arith, h, k)) (strikes rows)) [
         | inl found ↦ at_greatest found.0 none found.1
         | inr none_low ↦
             (NoStrikeBelow, (none, λ strike listed. above_if_not lo strike (none_low strike (in_from_contains (strikes rows) strike listed))))
@@ -85,7 +70,7 @@ module _ (rows : List StrikeRow) (lo hi : ℤ) where
   -- some answer is that of the two ends
   pub level_is_answered : (answer : K0Answer) × IsK0Answer rows lo hi answer
   level_is_answered =
-      elim (best_or_none (StrikeStraddles lo hi) (λ a b. a ≤ b) (straddles_or_not lo hi) (λ k. omega arith) order
+      elim (best_or_none (StrikeStraddles lo hi) (λ a b. a ≤ b) (straddles_or_not lo hi) (λ k. omega arith) rising_total
       (λ a b c h k. omega (arith, h, k)) (strikes rows)) [
         | inl found ↦ (
           Straddle found.0 lo hi,

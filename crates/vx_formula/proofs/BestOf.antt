@@ -1,5 +1,5 @@
--- The best of those that count, in a list of numbers: the lowest, or the greatest.
-use Rattle.std.proofs.Common.{sym, subst, ℕ, ◌⊎◌, List, [], ◌∷◌, inl, inr, refl}
+-- The best of those that count, in any list.
+use Rattle.std.proofs.Common.{sym, subst, ◌⊎◌, List, [], ◌∷◌, inl, inr, refl}
 use Rattle.vx_formula.proofs.Lists.{In}
 
 -- some element counts, or none does
@@ -14,14 +14,15 @@ some_or_none W decide (x ∷ xs) =
       ]
     ]
 
-module _ (W : ℕ → Type 0) (R : ℕ → ℕ → Type 0) where
-  pub record Best (ks : List ℕ) (k : ℕ) : Type 0 where
+module _ {X : Type 0} (W : X → Type 0) (R : X → X → Type 0) where
+  -- k counts, and comes before each other one that does
+  pub record Best (ks : List X) (k : X) : Type 0 where
     pub among : In ks k
     pub counts : W k
-    pub first : (other : ℕ) → In ks other → W other → R k other
+    pub first : (other : X) → In ks other → W other → R k other
 
-  module _ (decide : (k : ℕ) → W k ⊎ ¬ W k) (reflexive : (k : ℕ) → R k k) (total : (a b : ℕ) → R a b ⊎ R b a) (transitive : (a b c : ℕ) → R a b → R b c → R a c) where
-    with_found : (k : ℕ) (ks : List ℕ) (b : ℕ) → (W k ⊎ ¬ W k) → Best ks b → (R k b ⊎ R b k) → (c : ℕ) × Best (k ∷ ks) c
+  module _ (decide : (k : X) → W k ⊎ ¬ W k) (reflexive : (k : X) → R k k) (total : (a b : X) → R a b ⊎ R b a) (transitive : (a b c : X) → R a b → R b c → R a c) where
+    with_found : (k : X) (ks : List X) (b : X) → (W k ⊎ ¬ W k) → Best ks b → (R k b ⊎ R b k) → (c : X) × Best (k ∷ ks) c
     with_found k ks b (inl counts) best (inl before) = (
       k,
       record {
@@ -47,7 +48,7 @@ module _ (W : ℕ → Type 0) (R : ℕ → ℕ → Type 0) where
       },
     )
 
-    with_none : (k : ℕ) (ks : List ℕ) → (W k ⊎ ¬ W k) → ((other : ℕ) → In ks other → ¬ W other) → ((c : ℕ) × Best (k ∷ ks) c) ⊎ ((other : ℕ) → In (k ∷ ks) other → ¬ W other)
+    with_none : (k : X) (ks : List X) → (W k ⊎ ¬ W k) → ((other : X) → In ks other → ¬ W other) → ((c : X) × Best (k ∷ ks) c) ⊎ ((other : X) → In (k ∷ ks) other → ¬ W other)
     with_none k ks (inl counts) none =
         inl (
           k,
@@ -59,7 +60,8 @@ module _ (W : ℕ → Type 0) (R : ℕ → ℕ → Type 0) where
         )
     with_none k ks (inr counts_not) none = inr (λ other h. elim h [ inl e ↦ subst (λ z. ¬ W z) e counts_not | inr later ↦ none other later ])
 
-    pub best_or_none : (ks : List ℕ) → ((k : ℕ) × Best ks k) ⊎ ((k : ℕ) → In ks k → ¬ W k)
+    -- one of the list is the best of those that count, or none counts
+    pub best_or_none : (ks : List X) → ((k : X) × Best ks k) ⊎ ((k : X) → In ks k → ¬ W k)
     best_or_none [] = inr (λ k h. elim h [ ])
     best_or_none (k ∷ ks) =
         elim (best_or_none ks) [

@@ -10,6 +10,7 @@ pub mod RefusalLemmas
 pub mod RangeLemmas
 pub mod ExampleProofs
 pub mod BestOf
+pub mod Comparisons
 pub mod StrikeCases
 pub mod EndLemmas
 pub mod RowDecisions

@@ -9,24 +9,17 @@ use Rattle.vx_formula.specs.Undecided.{StrikeStraddles}
 use Rattle.vx_formula.proofs.Lists.{In, in_from_contains, contains_from_in}
 use Rattle.vx_formula.specs.StrikesByEnds.{IsLowestBetween, AreAllAbove, IsLevelByEnds, StrikesLieOneWay, LowestBetweenIsOne, LevelByEndsIsOne}
 use Rattle.vx_formula.proofs.BestOf.{Best, best_or_none}
+use Rattle.vx_formula.proofs.Comparisons.{at_most_or_not, falling_total, rising_total}
 
 abbrev IsAtMost : ℤ → ℕ → Type 0
 IsAtMost lo k = (pos FORWARD_UNITS *ℤ pos k) ≤ℤ lo
 
-straddles_or_not : (lo hi : ℤ) (k : ℕ) → StrikeStraddles lo hi k ⊎ ¬ StrikeStraddles lo hi k
+-- the units of a strike lie between the ends, or not
+pub straddles_or_not : (lo hi : ℤ) (k : ℕ) → StrikeStraddles lo hi k ⊎ ¬ StrikeStraddles lo hi k
 straddles_or_not lo hi k =
     by_lt_z lo (pos FORWARD_UNITS *ℤ pos k)
     (λ above. by_lt_z hi (pos FORWARD_UNITS *ℤ pos k) (λ beyond. inr (λ h. let high = h.at_most in omega (arith, ints))) (λ within. inl (record { above = above; at_most = within })))
     (λ low. inr (λ h. let high = h.above in omega (arith, ints)))
-
-at_most_or_not : (lo : ℤ) (k : ℕ) → IsAtMost lo k ⊎ ¬ IsAtMost lo k
-at_most_or_not lo k = by_lt_z lo (pos FORWARD_UNITS *ℤ pos k) (λ above. inr (λ h. omega (arith, ints))) (λ low. inl low)
-
-rising_total : (a b : ℕ) → (a ≤ b) ⊎ (b ≤ a)
-rising_total a b = elim (cases_lt a b) [ inl less ↦ inl (omega arith) | inr fine ↦ inr fine ]
-
-falling_total : (a b : ℕ) → (b ≤ a) ⊎ (a ≤ b)
-falling_total a b = rising_total b a
 
 -- what lies neither at most the low end nor between is above the high end
 is_beyond : (lo hi : ℤ) (k : ℕ) → ¬ StrikeStraddles lo hi k → ¬ IsAtMost lo k → hi <ℤ (pos FORWARD_UNITS *ℤ pos k)
@@ -60,7 +53,7 @@ pub lie_one_way : (rows : List StrikeRow) (lo hi : ℤ) → ((strike : ℕ) × I
 lie_one_way rows lo hi =
     elim (best_or_none (StrikeStraddles lo hi) (λ a b. a ≤ b) (straddles_or_not lo hi) (λ k. omega arith) rising_total (λ a b c h k. omega arith) (strikes rows)) [
       | inl found ↦ inl (found.0, lowest_of rows lo hi found.0 found.1)
-      | inr none ↦ elim (best_or_none (IsAtMost lo) (λ a b. b ≤ a) (at_most_or_not lo) (λ k. omega arith) falling_total (λ a b c h k. omega arith) (strikes rows)) [
+      | inr none ↦ elim (best_or_none (IsAtMost lo) (λ a b. b ≤ a) (λ k. at_most_or_not (pos FORWARD_UNITS *ℤ pos k) lo) (λ k. omega arith) falling_total (λ a b c h k. omega arith) (strikes rows)) [
         | inl found ↦ inr (inr (found.0, greatest_of rows lo hi found.0 none found.1))
         | inr none_low ↦ inr (inl (λ strike listed.
             let inside = in_from_contains (strikes rows) strike listed in
