@@ -6,6 +6,7 @@ pub mod LevelLemmas
 pub mod FigureLemmas
 pub mod SelectionLemmas
 pub mod Walks
+pub mod RefusalPlaces
 pub mod RefusalLemmas
 pub mod RangeLemmas
 pub mod ExampleProofs

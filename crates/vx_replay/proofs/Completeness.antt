@@ -1,8 +1,7 @@
 -- What is clear is answered.
-use Rattle.std.proofs.Common.{◌≡◌, ◌∙◌, sym, ap, subst, refl, ℕ, ◌+◌, ◌-◌, ◌<◌, ◌≤◌, inl, inr, ℤ, List, Option, Some, None, arith}
+use Rattle.std.proofs.Common.{◌≡◌, ◌∙◌, sym, ap, subst, refl, ℕ, ◌-◌, ◌<◌, ◌≤◌, ℤ, List, Option, Some, None, arith}
 use Rattle.std.specs.Option.{IfSome}
 use Rattle.std.proofs.lemmas.Option.{same_Some}
-use Rattle.std.proofs.lemmas.Bool.{cases_lt}
 use Rattle.vx_clock.specs.declared.days.DayNo.{DayNo}
 use Rattle.vx_clock.specs.declared.terms.Expiry.{Expiry}
 use Rattle.vx_clock.specs.declared.terms.Moment.{Moment}
@@ -14,9 +13,10 @@ use Rattle.vx_feed.specs.Order.{AreLawful}
 use Rattle.vx_formula.specs.Term.{TermFacts, Term as FormulaTerm, IsTermOf, HasSmallExponent}
 use Rattle.vx_formula.specs.Index.{TwoTerms}
 use Rattle.vx_formula.specs.Clear.{IsClearForward}
-use Rattle.vx_formula.specs.Refusal.{TermReason, no_rate, no_pair, no_strike_below, no_strike_above, no_money, no_put, no_call, strip_too_large, TickFacts, TickReason, no_near_term, no_next_term, of_near, of_next, negative_variance, TickRefuses, tick_place, term_place, FirstRefusal, near_undecided_place, next_undecided_place, cents_undecided_place}
+use Rattle.vx_formula.specs.Refusal.{TickFacts, TickReason, no_near_term, no_next_term, of_near, of_next, negative_variance, TickRefuses, tick_place, FirstRefusal, near_undecided_place, next_undecided_place, cents_undecided_place}
 use Rattle.vx_formula.proofs.FigureLemmas.{clear_index_is_decided}
 use Rattle.vx_formula.proofs.RefusalLemmas.{first_refusal_is_one}
+use Rattle.vx_formula.proofs.RefusalPlaces.{not_before, past_forward, place_range}
 use Rattle.vx_formula.proofs.RangeLemmas.{exponent_is_small}
 use Rattle.vx_claims.specs.declared.limits.TheConstants.{SCALE}
 use Rattle.vx_claims.specs.Seen.{events_before, moment_of, term_facts, AreNearFacts, AreNextFacts, AreTickFacts}
@@ -38,7 +38,6 @@ use Rattle.vx_replay.specs.Joined.{IsJoined}
 use Rattle.vx_replay.specs.Ticks.{IsAnswerOfTerms}
 use Rattle.vx_replay.specs.Lawful.{IsLawfulAnswer}
 use Rattle.vx_replay.specs.Complete.{HasClearForward, HasClearIndex, IsAnswered, ClearTickIsPublished, FirstRefusalIsAnswered}
-use Rattle.vx_replay.proofs.Places.{place_range}
 use Rattle.vx_replay.proofs.LawfulTicks.{tick_answer_is_lawful}
 use Rattle.vx_clock.proofs.TermsAreOne.{near_is_one, next_is_one}
 
@@ -204,17 +203,7 @@ late_is_negative negative_variance late = refl
 not_near_place : (reason : TickReason) → near_undecided_place ≤ tick_place reason → near_undecided_place < tick_place reason
 not_near_place no_near_term late = omega (arith, late)
 not_near_place no_next_term late = omega (arith, late)
-not_near_place (of_near reason) late = past_three reason late
-  where
-    past_three : (r : TermReason) → 5 ≤ 2 + term_place r → 5 < 2 + term_place r
-    past_three no_rate late = omega (arith, late)
-    past_three no_pair late = omega (arith, late)
-    past_three no_strike_below late = omega arith
-    past_three no_strike_above late = omega arith
-    past_three no_money late = omega arith
-    past_three no_put late = omega arith
-    past_three no_call late = omega arith
-    past_three strip_too_large late = omega arith
+not_near_place (of_near reason) late = past_forward 2 reason late
 not_near_place (of_next reason) late = let r = place_range reason in omega (arith, r.0)
 not_near_place negative_variance late = omega arith
 
@@ -222,22 +211,8 @@ not_next_place : (reason : TickReason) → next_undecided_place ≤ tick_place r
 not_next_place no_near_term late = omega (arith, late)
 not_next_place no_next_term late = omega (arith, late)
 not_next_place (of_near reason) late = let r = place_range reason in omega (arith, late, r.1)
-not_next_place (of_next reason) late = past_three reason late
-  where
-    past_three : (r : TermReason) → 14 ≤ 11 + term_place r → 14 < 11 + term_place r
-    past_three no_rate late = omega (arith, late)
-    past_three no_pair late = omega (arith, late)
-    past_three no_strike_below late = omega arith
-    past_three no_strike_above late = omega arith
-    past_three no_money late = omega arith
-    past_three no_put late = omega arith
-    past_three no_call late = omega arith
-    past_three strip_too_large late = omega arith
+not_next_place (of_next reason) late = past_forward 11 reason late
 not_next_place negative_variance late = omega arith
-
--- a refusal that holds is not before a place before which none does
-not_before : (Holds : TickReason → Type 0) (place : ℕ) (reason : TickReason) → Holds reason → ((other : TickReason) → tick_place other < place → ¬ Holds other) → place ≤ tick_place reason
-not_before Holds place reason holds none = elim (cases_lt (tick_place reason) place) [ inl less ↦ absurd (none reason less holds) | inr most ↦ most ]
 
 -- the first refusal is answered where what comes before it is clear
 pub first_refusal_is_answered : FirstRefusalIsAnswered
@@ -253,19 +228,19 @@ first_refusal_is_answered days window events line time facts (UndecidedCents lo 
     let answer : TickAnswer = UndecidedCents lo hi in
     let leaves : LeavesCents events line time days window lo hi = lawful_answer days window events line time facts (UndecidedCents lo hi) is in
     let none = none_of_facts days window events line time facts (UndecidedCents lo hi) is leaves.facts cents_undecided_place leaves.are_facts leaves.none_earlier in
-    let late = not_before (TickRefuses SCALE facts) cents_undecided_place refusal first.holds none in
+    let late = not_before tick_place (TickRefuses SCALE facts) cents_undecided_place refusal first.holds none in
     cents_are_decided days window events line time facts (UndecidedCents lo hi) is (is.is_answer).answered (index (late_is_negative refusal late)) lo hi leaves
 first_refusal_is_answered days window events line time facts (UndecidedForward Near strike lo hi) refusal is first near next index =
     let h = (is.is_answer).answered in
     let leaves : LeavesNearForward events line time days window strike lo hi = lawful_answer days window events line time facts (UndecidedForward Near strike lo hi) is in
     let none = none_of_facts days window events line time facts (UndecidedForward Near strike lo hi) is leaves.facts near_undecided_place leaves.are_facts (leaves.leaves).none_earlier in
-    let late = not_near_place refusal (not_before (TickRefuses SCALE facts) near_undecided_place refusal first.holds none) in
+    let late = not_near_place refusal (not_before tick_place (TickRefuses SCALE facts) near_undecided_place refusal first.holds none) in
     near_is_decided line time days strike lo hi h.near_answer h.next_answer (near_decided days window events line time facts (UndecidedForward Near strike lo hi) is h (near late)) h.joined
 first_refusal_is_answered days window events line time facts (UndecidedForward Next strike lo hi) refusal is first near next index =
     let h = (is.is_answer).answered in
     let leaves : LeavesNextForward events line time days window strike lo hi = lawful_answer days window events line time facts (UndecidedForward Next strike lo hi) is in
     let none = none_of_facts days window events line time facts (UndecidedForward Next strike lo hi) is leaves.facts next_undecided_place leaves.are_facts (leaves.leaves).none_earlier in
-    let late = not_next_place refusal (not_before (TickRefuses SCALE facts) next_undecided_place refusal first.holds none) in
+    let late = not_next_place refusal (not_before tick_place (TickRefuses SCALE facts) next_undecided_place refusal first.holds none) in
     next_is_decided line time days strike lo hi h.near_answer h.next_answer (next_decided days window events line time facts (UndecidedForward Next strike lo hi) is h (next late)) h.joined
 first_refusal_is_answered days window events line time facts (UndecidedForward Both strike lo hi) refusal is first near next index =
     lawful_answer days window events line time facts (UndecidedForward Both strike lo hi) is

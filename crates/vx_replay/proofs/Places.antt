@@ -1,23 +1,13 @@
 -- The first refusal of a tick, by the first of its terms.
-use Rattle.std.proofs.Common.{sym, subst, ℕ, ◌<◌, ◌≤◌, ℤ, pos, ◌+ℤ◌, ◌≤ℤ◌, Some, refl, arith}
+use Rattle.std.proofs.Common.{sym, subst, ℕ, ◌<◌, ℤ, pos, ◌+ℤ◌, ◌≤ℤ◌, Some, refl, arith}
 use Rattle.std.proofs.lemmas.Option.{same_Some}
 use Rattle.vx_formula.specs.declared.limits.TheConstants.{FORWARD_WIDTH_MAX}
 use Rattle.vx_formula.specs.Term.{TermFacts}
-use Rattle.vx_formula.specs.Refusal.{TermReason, no_rate, no_pair, no_strike_below, no_strike_above, no_money, no_put, no_call, strip_too_large, TermRefuses, term_place, FirstTermRefusal, TickFacts, TickReason, no_near_term, no_next_term, of_near, of_next, negative_variance, SomeTermRefuses, TickRefuses, tick_place, FirstRefusal, near_undecided_place, next_undecided_place, cents_undecided_place}
+use Rattle.vx_formula.specs.Refusal.{TermReason, TermRefuses, FirstTermRefusal, TickFacts, TickReason, no_near_term, no_next_term, of_near, of_next, negative_variance, SomeTermRefuses, TickRefuses, tick_place, FirstRefusal, near_undecided_place, next_undecided_place, cents_undecided_place}
+use Rattle.vx_formula.proofs.RefusalPlaces.{place_range}
 use Rattle.vx_claims.specs.Answers.{LeavesForward}
 use Rattle.vx_claims.specs.declared.limits.TheConstants.{SCALE}
 use Rattle.vx_term.specs.Meaning.{UndecidedMeans}
-
--- a term's refusals have the places from 1 to 9
-pub place_range : (reason : TermReason) → (1 ≤ term_place reason) × (term_place reason ≤ 9)
-place_range no_rate = (omega arith, omega arith)
-place_range no_pair = (omega arith, omega arith)
-place_range no_strike_below = (omega arith, omega arith)
-place_range no_strike_above = (omega arith, omega arith)
-place_range no_money = (omega arith, omega arith)
-place_range no_put = (omega arith, omega arith)
-place_range no_call = (omega arith, omega arith)
-place_range strip_too_large = (omega arith, omega arith)
 
 -- a refusal of a chosen term is one of these facts
 chosen_refuses : (P : ℕ) (f : TermFacts) (reason : TermReason) → SomeTermRefuses P (Some f) reason → TermRefuses P f reason

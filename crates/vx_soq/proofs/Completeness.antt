@@ -1,16 +1,16 @@
 -- What is clear at the opening is answered.
-use Rattle.std.proofs.Common.{◌≡◌, ◌∙◌, sym, subst, refl, ℕ, ◌+◌, ◌<◌, ◌≤◌, inl, inr, ℤ, List, Option, Some, arith}
+use Rattle.std.proofs.Common.{◌≡◌, ◌∙◌, sym, subst, refl, ℕ, ◌<◌, ◌≤◌, ℤ, List, Option, Some, arith}
 use Rattle.std.specs.Option.{IfSome}
 use Rattle.std.proofs.lemmas.Option.{same_Some}
-use Rattle.std.proofs.lemmas.Bool.{cases_lt}
 use Rattle.vx_symbol.specs.Rows.{IsRateInRange}
 use Rattle.vx_feed.specs.declared.events.Event.{Event}
 use Rattle.vx_feed.specs.Order.{AreLawful}
 use Rattle.vx_formula.specs.Term.{TermFacts, Term as FormulaTerm, IsTermOf, HasSmallExponent}
 use Rattle.vx_formula.specs.Index.{OneTerm}
-use Rattle.vx_formula.specs.Refusal.{TermReason, no_rate, no_pair, no_strike_below, no_strike_above, no_money, no_put, no_call, strip_too_large, term_place, OpeningReason, no_opening, no_term, of_term, negative_opening, OpeningRefuses, opening_place, opening_undecided_place, opening_cents_undecided_place}
+use Rattle.vx_formula.specs.Refusal.{OpeningReason, no_opening, no_term, of_term, negative_opening, OpeningRefuses, opening_place, opening_undecided_place, opening_cents_undecided_place}
 use Rattle.vx_formula.proofs.FigureLemmas.{clear_index_is_decided}
 use Rattle.vx_formula.proofs.RefusalLemmas.{first_opening_refusal_is_one}
+use Rattle.vx_formula.proofs.RefusalPlaces.{not_before, past_forward, place_range}
 use Rattle.vx_formula.proofs.RangeLemmas.{exponent_is_small}
 use Rattle.vx_claims.specs.declared.limits.TheConstants.{SCALE}
 use Rattle.vx_claims.specs.Seen.{opening_expiry, opening_term_facts, opening_facts}
@@ -26,7 +26,7 @@ use Rattle.vx_soq.specs.declared.answer.OpeningAnswer.TheVariants.{Published, Re
 use Rattle.vx_soq.specs.Figures.{IsJoined}
 use Rattle.vx_soq.specs.Openings.{IsAnswerOfTerm}
 use Rattle.vx_soq.specs.Complete.{HasClearForward, HasClearIndex, ClearOpeningIsPublished, FirstOpeningRefusalIsAnswered}
-use Rattle.vx_soq.proofs.LawfulOpenings.{place_range, facts_lawful, term_is, declared_from, opening_answer_is_lawful}
+use Rattle.vx_soq.proofs.LawfulOpenings.{facts_lawful, term_is, declared_from, opening_answer_is_lawful}
 
 -- a decided term leaves no undecided forward
 term_is_decided : (line time strike : ℕ) (lo hi : ℤ) (a : TermAnswer SCALE) → IsForwardDecided SCALE a → IsJoined line time a (UndecidedForward strike lo hi) → ⊥
@@ -86,24 +86,11 @@ late_is_negative no_term late = absurd (omega (arith, late))
 late_is_negative (of_term reason) late = let r = place_range reason in absurd (omega (arith, late, r.1))
 late_is_negative negative_opening late = refl
 
-past_forward : (reason : OpeningReason) → opening_undecided_place ≤ opening_place reason → opening_undecided_place < opening_place reason
-past_forward no_opening late = omega (arith, late)
-past_forward no_term late = omega (arith, late)
-past_forward (of_term reason) late = past_three reason late
-  where
-    past_three : (r : TermReason) → 5 ≤ 2 + term_place r → 5 < 2 + term_place r
-    past_three no_rate late = omega (arith, late)
-    past_three no_pair late = omega (arith, late)
-    past_three no_strike_below late = omega arith
-    past_three no_strike_above late = omega arith
-    past_three no_money late = omega arith
-    past_three no_put late = omega arith
-    past_three no_call late = omega arith
-    past_three strip_too_large late = omega arith
-past_forward negative_opening late = omega arith
-
-not_before : (Holds : OpeningReason → Type 0) (place : ℕ) (reason : OpeningReason) → Holds reason → ((other : OpeningReason) → opening_place other < place → ¬ Holds other) → place ≤ opening_place reason
-not_before Holds place reason holds none = elim (cases_lt (opening_place reason) place) [ inl less ↦ absurd (none reason less holds) | inr most ↦ most ]
+not_forward_place : (reason : OpeningReason) → opening_undecided_place ≤ opening_place reason → opening_undecided_place < opening_place reason
+not_forward_place no_opening late = omega (arith, late)
+not_forward_place no_term late = omega (arith, late)
+not_forward_place (of_term reason) late = past_forward 2 reason late
+not_forward_place negative_opening late = omega arith
 
 -- the first refusal is answered where what comes before it is clear
 pub first_opening_refusal_is_answered : FirstOpeningRefusalIsAnswered
@@ -114,9 +101,9 @@ first_opening_refusal_is_answered events (Published figure) lawful is refusal fi
     published.1.none_refuses refusal first.holds
 first_opening_refusal_is_answered events (UndecidedCents lo hi) lawful is refusal first forward index =
     let leaves : LeavesOpeningCents events lo hi = opening_answer_is_lawful events (UndecidedCents lo hi) lawful is in
-    let late = not_before (OpeningRefuses SCALE (opening_facts events)) opening_cents_undecided_place refusal first.holds leaves.none_earlier in
+    let late = not_before opening_place (OpeningRefuses SCALE (opening_facts events)) opening_cents_undecided_place refusal first.holds leaves.none_earlier in
     cents_are_decided events (UndecidedCents lo hi) lawful is (index (late_is_negative refusal late)) lo hi leaves
 first_opening_refusal_is_answered events (UndecidedForward strike lo hi) lawful is refusal first forward index =
     let leaves : LeavesOpeningForward events strike lo hi = opening_answer_is_lawful events (UndecidedForward strike lo hi) lawful is in
-    let late = past_forward refusal (not_before (OpeningRefuses SCALE (opening_facts events)) opening_undecided_place refusal first.holds leaves.none_earlier) in
+    let late = not_forward_place refusal (not_before opening_place (OpeningRefuses SCALE (opening_facts events)) opening_undecided_place refusal first.holds leaves.none_earlier) in
     term_is_decided _ is.time strike lo hi is.term_answer (forward_is_decided events (UndecidedForward strike lo hi) lawful is (forward late)) is.joined

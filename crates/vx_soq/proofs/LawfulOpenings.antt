@@ -23,7 +23,8 @@ use Rattle.vx_formula.specs.Term.{TermFacts, Term as FormulaTerm}
 use Rattle.vx_formula.specs.Variance.{variance_at}
 use Rattle.vx_formula.specs.Index.{OneTermMeets, IsNegative}
 use Rattle.vx_formula.specs.Between.{BetweenAt}
-use Rattle.vx_formula.specs.Refusal.{TermReason, no_rate, no_pair, no_strike_below, no_strike_above, no_money, no_put, no_call, strip_too_large, TermRefuses, term_place, FirstTermRefusal, OpeningFacts, IsOpeningBasis, OpeningReason, no_opening, no_term, of_term, negative_opening, SomeTermRefuses, OpeningRefuses, opening_place, FirstOpeningRefusal, opening_cents_undecided_place}
+use Rattle.vx_formula.specs.Refusal.{TermReason, TermRefuses, term_place, FirstTermRefusal, OpeningFacts, IsOpeningBasis, OpeningReason, no_opening, no_term, of_term, negative_opening, SomeTermRefuses, OpeningRefuses, opening_place, FirstOpeningRefusal, opening_cents_undecided_place}
+use Rattle.vx_formula.proofs.RefusalPlaces.{place_range}
 use Rattle.vx_claims.specs.declared.acceptance.Test.{Test}
 use Rattle.vx_claims.specs.declared.acceptance.Test.TheVariants.{Place, Terms, Minutes, Rate, TaylorTerms, Exponential, ClosestPair, Forward, Level, Excess, Strip, Contributions, Total, Variance, Square, IndexEnds}
 use Rattle.vx_claims.specs.declared.limits.TheConstants.{SCALE}
@@ -60,17 +61,6 @@ fine : IsScale SCALE
 fine = (omega arith, omega arith)
 
 -- ---- the places of a term's refusals
-
--- they are those from 1 to 9
-pub place_range : (reason : TermReason) → (1 ≤ term_place reason) × (term_place reason ≤ 9)
-place_range no_rate = (omega arith, omega arith)
-place_range no_pair = (omega arith, omega arith)
-place_range no_strike_below = (omega arith, omega arith)
-place_range no_strike_above = (omega arith, omega arith)
-place_range no_money = (omega arith, omega arith)
-place_range no_put = (omega arith, omega arith)
-place_range no_call = (omega arith, omega arith)
-place_range strip_too_large = (omega arith, omega arith)
 
 module _ (seen : OpeningFacts) (facts : TermFacts) (taken : seen.is_taken ≡ true) (term_is : seen.term ≡ Some facts) where
   refuses : (reason : TermReason) → SomeTermRefuses SCALE seen.term reason → TermRefuses SCALE facts reason
