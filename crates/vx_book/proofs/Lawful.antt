@@ -1,5 +1,5 @@
 -- The rows that are kept are lawful.
-use Rattle.std.proofs.Common.{◌≡◌, ◌∙◌, ap, refl, ◌<◌, ◌≤◌, ◌+◌, ℕ, zero, suc, Bool, true, false, cond, ◌==◌, List, [], ◌∷◌, map, length, get_or, Option, Some, None, arith}
+use Rattle.std.proofs.Common.{◌≡◌, ◌∙◌, ap, refl, ◌<◌, ◌≤◌, ℕ, zero, suc, Bool, true, false, cond, ◌==◌, List, [], ◌∷◌, map, length, get_or, Option, Some, None, arith}
 use Rattle.std.specs.Prelude.{nat_lt, IfSome}
 use Rattle.std.specs.List.{All, filter}
 use Rattle.std.proofs.lemmas.List.{length-map}
@@ -19,8 +19,8 @@ use Rattle.vx_feed.specs.Listed.{is_strike_listed, listed_rows, listed_strikes, 
 use Rattle.vx_feed.specs.Opening.{traded_price}
 use Rattle.vx_feed.specs.NextRows.{insert_row, row_without}
 use Rattle.vx_book.specs.Opening.{row_with_trades}
-use Rattle.vx_book.specs.Tables.{AreRising, row_with}
-use Rattle.vx_feed.proofs.RisingStrikes.{RisesFrom, filter_rises, strikes_rise}
+use Rattle.vx_book.specs.Tables.{row_with}
+use Rattle.vx_feed.proofs.RisingStrikes.{rows_rise}
 
 -- ---- rows that are changed one by one, and keep their strikes
 
@@ -77,27 +77,6 @@ traded_rows_lawful trade ranges x rows lawful =
 
 -- ---- listed rows
 
-rises_above : (price : Symbol → Price) (x : Expiry) (low : ℕ) (ks : List ℕ) → RisesFrom low ks → (j : ℕ) (d : StrikeRow) → j < length ks → low ≤ (get_or (map (row_of price x) ks) j d).strike
-rises_above price x low [] r j d h = absurd (omega arith)
-rises_above price x low (k ∷ ks) r zero d h = r.0
-rises_above price x low (k ∷ ks) r (suc j) d h =
-    let a : low ≤ k = r.0 in
-    let b = rises_above price x (k + 1) ks r.1 j d (omega arith) in
-    omega arith
-
-pairs_rise : (price : Symbol → Price) (x : Expiry) (low : ℕ) (ks : List ℕ) → RisesFrom low ks → AreRising (map (row_of price x) ks)
-pairs_rise price x low [] r i j d lt within = absurd (omega arith)
-pairs_rise price x low (k ∷ ks) r i zero d lt within = absurd (omega arith)
-pairs_rise price x low (k ∷ ks) r zero (suc j) d lt within =
-    let same : length (map (row_of price x) ks) ≡ length ks = length-map ks (row_of price x) in
-    let b = rises_above price x (k + 1) ks r.1 j d (omega arith) in
-    omega arith
-pairs_rise price x low (k ∷ ks) r (suc i) (suc j) d lt within = pairs_rise price x (k + 1) ks r.1 i j d (omega arith) (omega arith)
-
-pub rows_rise : (x : Expiry) (events : List Event) → AreRising (listed_rows x events)
-rows_rise x events =
-    pairs_rise (standing_price events) x 0 (listed_strikes x events) (filter_rises (is_strike_listed x events) 0 (strikes_of x events) (strikes_rise x events))
-
 filter_short : (t : ℕ → Bool) (ks : List ℕ) → length (filter t ks) ≤ length ks
 filter_short t [] = omega arith
 filter_short t (k ∷ ks) =
@@ -110,7 +89,7 @@ listed_lawful x events few each = record {
   count = (let same : length (listed_rows x events) ≡ length (listed_strikes x events) = length-map (listed_strikes x events) (row_of (standing_price events) x) in
       let short = filter_short (is_strike_listed x events) (strikes_of x events) in omega arith);
   each = each;
-  rising = rows_rise x events;
+  rising = rows_rise (standing_price events) x events;
 }
 
 pub all_inserted : (row : StrikeRow) (rows : List StrikeRow) → IsLawfulRow row → All IsLawfulRow rows → All IsLawfulRow (insert_row row rows)

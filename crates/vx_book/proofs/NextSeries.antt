@@ -21,7 +21,6 @@ use Rattle.vx_feed.specs.Same.{is_same_expiry, is_same_series}
 use Rattle.vx_feed.specs.Standing.{is_opening, lists_series, opening_trade, standing_rate}
 use Rattle.vx_feed.specs.Listed.{expiry_of, is_declared, is_listed, is_strike_listed, listed_rows, no_price, other_side, quoted_price, series_at, standing_price}
 use Rattle.vx_feed.proofs.NextEvent.{next_listed, unlisted_has_none}
-use Rattle.vx_feed.proofs.NextRows.{sides_without}
 use Rattle.vx_feed.proofs.NoCauses.{no_causes}
 use Rattle.vx_feed.proofs.SameLemmas.{expiry_from_same}
 use Rattle.vx_book.specs.declared.book.Book.{Book}
@@ -35,13 +34,14 @@ use Rattle.vx_book.specs.Tables.{AddsRow, ArePlaces, IsSameTable, SetsPrice, pri
 use Rattle.vx_feed.specs.Opening.{opening_rate, opening_rows}
 use Rattle.vx_book.specs.Opening.{TakesOpening, kept_opening_rate, kept_opening_rows}
 use Rattle.vx_book.specs.StandsFor.{AreOrderly, KeptStandsFor, MayApply, PlaceStandsFor, SeriesStandsFor, Shows, StandsFor, TableStandsFor, TablesStandFor, counted, strike_kept}
-use Rattle.vx_feed.proofs.NextRows.{next_rows_listed}
+use Rattle.vx_feed.proofs.NextRows.{next_rows_listed, sides_without}
 use Rattle.vx_book.proofs.Places.{get_unwritten, get_written, position_says}
 use Rattle.vx_book.proofs.Rows.{has_row, strike_from_row}
 use Rattle.vx_book.proofs.Quiet.{apart, listed_same, price_same, rate_same, rows_quoted, rows_with_unlisted, trade_same}
 use Rattle.vx_book.proofs.Lawful.{all_inserted, listed_lawful, no_price-lawful, quoted_lawful, row_if, row_if-strike, row_without-lawful}
 use Rattle.vx_book.proofs.Terms.{LeavesTerm, and_here, expiry_itself, tables_changed, tables_left}
-use Rattle.vx_book.proofs.Kept.{LeavesSeries, after_set, apart_turned, at_same, keeps_all, kept_left, place_left, late_trade_leaves, listed_by, listed_kept, listing_leaves, other_apart, other_twice, price_quoted, quote_leaves, row_leaves, says_nothing, series_from_same, series_itself, series_left, trade_leaves, trade_taken, unlisted_kept, unlisted_left}
+use Rattle.vx_book.proofs.Kept.{LeavesSeries, kept_left, place_left, late_trade_leaves, listing_leaves, quote_leaves, row_leaves, series_left, trade_leaves, unlisted_left}
+use Rattle.vx_book.proofs.Kept.{after_set, apart_turned, at_same, keeps_all, listed_by, listed_kept, other_apart, other_twice, price_quoted, says_nothing, series_from_same, series_itself, trade_taken, unlisted_kept}
 use Rattle.vx_book.proofs.Room.{few_still, few_with_series, orderly_next}
 use Rattle.vx_book.proofs.Openings.{opened_is, opened_now, opening_taken}
 use Rattle.vx_book.proofs.NextBook.{day_same, expiries_same, leaves_term, stands_rest, strikes_written, table_at, with_terms_of}

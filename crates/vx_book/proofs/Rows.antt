@@ -12,9 +12,10 @@ use Rattle.std.proofs.lemmas.List.Elements.{All-map, All-push, All-weaker}
 use Rattle.vx_symbol.specs.declared.symbols.Side.{Side}
 use Rattle.vx_symbol.specs.declared.rows.Price.{Price}
 use Rattle.vx_symbol.specs.declared.rows.StrikeRow.{StrikeRow}
+use Rattle.vx_symbol.specs.Rows.{StrikesRise}
 use Rattle.vx_feed.specs.NextRows.{insert_row}
 use Rattle.vx_book.specs.declared.table.Table.{Table}
-use Rattle.vx_book.specs.Tables.{AddsRow, ArePlaces, AreRising, IsPlaceFor, moved_up, row_with, rows_with, strike_at}
+use Rattle.vx_book.specs.Tables.{AddsRow, ArePlaces, IsPlaceFor, moved_up, row_with, rows_with, strike_at}
 use Rattle.vx_book.proofs.Places.{get_before, get_inserted, get_insert, get_pushed, moved_up-le}
 
 -- ---- the place of a strike
@@ -39,7 +40,7 @@ inserts_there k (suc place) (r ∷ rows) row le is low high =
     ap (λ l. r ∷ l) (inserts_there k place rows row (omega arith) is (λ j d h. low (suc j) d (omega arith)) (λ j d h l. high (suc j) d (omega arith) (omega arith)))
     ∙ sym (insert_row-above row r rows (omega arith))
 
-pub rising_is_partitioned : (k : ℕ) (rows : List StrikeRow) → AreRising rows → IsPartitionedBy (λ row. nat_le row.strike k) rows
+pub rising_is_partitioned : (k : ℕ) (rows : List StrikeRow) → StrikesRise rows → IsPartitionedBy (λ row. nat_le row.strike k) rows
 rising_is_partitioned k rows rising i j d le within h =
     elim (cases_lt i j) [
       | inl lt ↦
@@ -68,7 +69,7 @@ rows_with_same k side price (r ∷ rows) h =
     ap (λ b. cond b (row_with side price r) r ∷ rows_with k side price rows) t
     ∙ ap (λ l. r ∷ l) (rows_with_same k side price rows (λ j d l. h (suc j) d (omega arith)))
 
-pub rows_written : (k : ℕ) (side : Side) (price : Price) (rows : List StrikeRow) (i : ℕ) (row : StrikeRow) → AreRising rows
+pub rows_written : (k : ℕ) (side : Side) (price : Price) (rows : List StrikeRow) (i : ℕ) (row : StrikeRow) → StrikesRise rows
     → slice_get rows i ≡ Some row → row.strike ≡ k → set rows i (row_with side price row) ≡ rows_with k side price rows
 rows_written k side price [] i row rising at is = absurd (cc at)
 rows_written k side price (r ∷ rows) zero row rising at is =
@@ -151,7 +152,7 @@ places_added rows places at row le placed =
     (All-map P (moved_up at) places (All-weaker (λ place. place < length rows) (λ place. P (moved_up at place)) (λ place h. let h' = moved_up-le at place (length rows) h in omega arith) places placed))
     (omega arith)
 
-pub rows_set : (rows : List StrikeRow) (places : List ℕ) (n k : ℕ) (side : Side) (price : Price) (place : ℕ) (row new : StrikeRow) → AreRising rows
+pub rows_set : (rows : List StrikeRow) (places : List ℕ) (n k : ℕ) (side : Side) (price : Price) (place : ℕ) (row new : StrikeRow) → StrikesRise rows
     → strike_at rows places n ≡ Some k → place ≡ get_or places n place → row ≡ get_or rows place row → new ≡ row_with side price row
     → set rows place new ≡ rows_with k side price rows
 rows_set rows places n k side price place row new rising at place_is row_is new_is =

@@ -1,6 +1,6 @@
 -- What a table keeps of its expiry. This project's own.
 use Rattle.std.specs.Prelude.{◌≡◌, ℕ, ◌+◌, ◌<◌, ◌≤◌, ◌==◌, nat_le, List, map, length, Option, Some, option_map, option_and_then, slice_get, if◌then◌else◌}
-use Rattle.std.specs.List.{All, AllPairs, insert}
+use Rattle.std.specs.List.{All, insert}
 use Rattle.vx_symbol.specs.declared.symbols.Side.{Side}
 use Rattle.vx_symbol.specs.declared.symbols.Side.TheVariants.{Call, Put}
 use Rattle.vx_symbol.specs.declared.rows.Price.{Price}
@@ -13,10 +13,6 @@ use Rattle.vx_book.specs.declared.table.Table.{Table}
 -- the price of a quote
 abbrev pub price_of : ℕ → ℕ → Price
 price_of bid ask = quoted_price (if_standing (record { bid = bid; ask = ask }))
-
--- the strikes strictly rise
-abbrev pub AreRising : List StrikeRow → Type 0
-AreRising rows = AllPairs (λ a b. a.strike < b.strike) rows
 
 -- a row with this price on one side
 abbrev pub row_with : Side → Price → StrikeRow → StrikeRow

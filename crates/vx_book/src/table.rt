@@ -2,11 +2,11 @@
 
 ghost use Rattle.std.specs.Prelude.{◌≡◌, ◌<◌, [], map, length, IfOk, OnErr, IsSome, None};
 ghost use Rattle.std.specs.List.{All};
-ghost use Rattle.vx_symbol.specs.Rows.{IsLawfulPrice};
+ghost use Rattle.vx_symbol.specs.Rows.{IsLawfulPrice, StrikesRise};
 ghost use Rattle.vx_feed.specs.Ranges.{IsPrice};
 ghost use Rattle.vx_feed.specs.NextRows.{row_without};
 ghost use Rattle.vx_book.specs.Tables as spec;
-ghost use Rattle.vx_book.specs.Tables.{AddsRow, ArePlaces, AreRising, IsPlaceFor, IsSameTable, SetsPrice, price_of, row_with, strike_of_row};
+ghost use Rattle.vx_book.specs.Tables.{AddsRow, ArePlaces, IsPlaceFor, IsSameTable, SetsPrice, price_of, row_with, strike_of_row};
 
 use std::alloc::Global;
 use vx_num::NoMemory;
@@ -54,7 +54,7 @@ impl Table {
     /// Puts the row of a strike that has none in its place, and answers its number. After a refusal
     /// nothing has changed.
     pub fn add_row(&mut self, row: StrikeRow) -> Result<usize, NoMemory>
-        requires rising { AreRising self.old.rows.items }
+        requires rising { StrikesRise self.old.rows.items }
         requires placed { ArePlaces self.old.rows.items self.old.places.items }
         ensures added { IfOk result (AddsRow row self.old self.new) }
         ensures refused { OnErr result (IsSameTable self.old self.new) }
@@ -70,7 +70,7 @@ impl Table {
 
     /// Sets the price on one side of the row of a number.
     pub fn set_price(&mut self, number: usize, side: Side, price: Price)
-        requires rising { AreRising self.old.rows.items }
+        requires rising { StrikesRise self.old.rows.items }
         requires has_row { IsSome (strike_of_row self.old number) }
         ensures { SetsPrice number side price self.old self.new }
     {
@@ -81,7 +81,7 @@ impl Table {
 
 /// How many rows stand at or below a strike.
 fn place_for(rows: &[StrikeRow], strike: u32) -> usize
-    requires { AreRising rows.now }
+    requires { StrikesRise rows.now }
     ensures { IsPlaceFor strike rows.now result }
 {
     rows.partition_point(|row| row.strike <= strike)

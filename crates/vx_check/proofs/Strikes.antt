@@ -1,9 +1,7 @@
 -- The listed rows of an expiry by their strikes.
-use Rattle.std.proofs.Common.{◌≡◌, ℕ, ◌+◌, ◌<◌, ◌≤◌, ◌⊎◌, Bool, true, false, cond, ◌&&◌, ◌||◌, ◌==◌, List, [], ◌∷◌, map, Option, Some, None, refl, sym, ◌∙◌, ap, subst, inl, inr, arith}
-use Rattle.std.specs.Prelude.{nat_lt}
+use Rattle.std.proofs.Common.{◌≡◌, ℕ, ◌+◌, ◌≤◌, ◌⊎◌, Bool, true, false, cond, ◌&&◌, ◌||◌, ◌==◌, List, [], ◌∷◌, map, Option, Some, None, refl, sym, ◌∙◌, ap, subst, inl, inr, arith}
 use Rattle.std.specs.List.{filter}
 use Rattle.std.proofs.lemmas.Bool.{cases_order, cases_eq, cases_Bool, eqb-true}
-use Rattle.std.proofs.lemmas.Bool.Decides.{nat_tests}
 use Rattle.vx_clock.specs.declared.terms.Expiry.{Expiry}
 use Rattle.vx_symbol.specs.declared.symbols.Side.{Side}
 use Rattle.vx_symbol.specs.declared.symbols.Side.TheVariants.{Call, Put}
@@ -15,6 +13,8 @@ use Rattle.vx_feed.specs.declared.events.Event.TheVariants as event
 use Rattle.vx_feed.specs.Same.{is_same_root, is_same_day, is_same_side, is_same_expiry}
 use Rattle.vx_feed.specs.Standing.{lists_series}
 use Rattle.vx_feed.specs.Listed.{expiry_of, insert_strike, is_listed, is_strike_listed, listed_rows, listed_strike, row_of, series_at, standing_price, strikes_of, with_strike}
+use Rattle.vx_feed.proofs.NextEvent.{insert_strike-above, insert_strike-at, insert_strike-below}
+use Rattle.vx_feed.proofs.RisingStrikes.{RisesFrom as StrikesFrom, strikes_rise}
 use Rattle.vx_formula.proofs.Lists.{In}
 use Rattle.vx_check.specs.Rising.{RisesFrom, Rises, item_at}
 use Rattle.vx_check.specs.Tables.{row_strike}
@@ -22,56 +22,21 @@ use Rattle.vx_check.specs.NextRows.{both_sides, listed_row}
 use Rattle.vx_check.proofs.Rising.{item_here, item_past, rises_weaker}
 use Rattle.vx_check.proofs.TableLists.{and_both}
 
-abbrev itself : ℕ → ℕ
-itself k = k
-
 or_cases : (a b : Bool) → (a || b) ≡ true → (a ≡ true) ⊎ (b ≡ true)
 or_cases true b h = inl refl
 or_cases false b h = inr h
 
 -- ---- a strike among rising ones
 
-inserted_below : (k j : ℕ) (js : List ℕ) → k < j → insert_strike k (j ∷ js) ≡ k ∷ j ∷ js
-inserted_below k j js h = let t : nat_lt k j ≡ true = grind (arith, nat_tests) in rw t refl
-
-inserted_at : (k j : ℕ) (js : List ℕ) → k ≡ j → insert_strike k (j ∷ js) ≡ j ∷ js
-inserted_at k j js h = let t : nat_lt k j ≡ false = grind (arith, nat_tests) in let u : (k == j) ≡ true = grind (arith, nat_tests) in rw (t, u) refl
-
-inserted_above : (k j : ℕ) (js : List ℕ) → j < k → insert_strike k (j ∷ js) ≡ j ∷ insert_strike k js
-inserted_above k j js h = let t : nat_lt k j ≡ false = grind (arith, nat_tests) in let u : (k == j) ≡ false = grind (arith, nat_tests) in rw (t, u) refl
-
-abbrev StrikesFrom : ℕ → List ℕ → Type 0
-StrikesFrom low ks = RisesFrom itself low ks
-
-insert_rises : (k low : ℕ) (js : List ℕ) → low ≤ k → StrikesFrom low js → StrikesFrom low (insert_strike k js)
-insert_rises k low [] h r = (h, tt)
-insert_rises k low (j ∷ js) h r =
-    let From : List ℕ → Type 0 = StrikesFrom low in
-    elim (cases_order k j) [
-      | inl e ↦ subst From (sym (inserted_at k j js e)) r
-      | inr apart ↦ elim apart [
-        | inl below ↦ subst From (sym (inserted_below k j js below)) (h, (omega arith, r.1))
-        | inr above ↦ subst From (sym (inserted_above k j js above)) (r.0, insert_rises k (j + 1) js (omega arith) r.1)
-      ]
-    ]
-
-with_rises : (o : Option ℕ) (js : List ℕ) → StrikesFrom 0 js → StrikesFrom 0 (with_strike o js)
-with_rises None js r = r
-with_rises (Some k) js r = insert_rises k 0 js (omega arith) r
-
-strikes_rise : (x : Expiry) (events : List Event) → StrikesFrom 0 (strikes_of x events)
-strikes_rise x [] = tt
-strikes_rise x (e ∷ events) = with_rises (listed_strike x e) (strikes_of x events) (strikes_rise x events)
-
 in_inserted : (k : ℕ) (js : List ℕ) → In (insert_strike k js) k
 in_inserted k [] = inl refl
 in_inserted k (j ∷ js) =
     let Has : List ℕ → Type 0 = λ l. In l k in
     elim (cases_order k j) [
-      | inl e ↦ subst Has (sym (inserted_at k j js e)) (inl (sym e))
+      | inl e ↦ subst Has (sym (insert_strike-at k j js e)) (inl (sym e))
       | inr apart ↦ elim apart [
-        | inl below ↦ subst Has (sym (inserted_below k j js below)) (inl refl)
-        | inr above ↦ subst Has (sym (inserted_above k j js above)) (inr (in_inserted k js))
+        | inl below ↦ subst Has (sym (insert_strike-below k j js below)) (inl refl)
+        | inr above ↦ subst Has (sym (insert_strike-above k j js above)) (inr (in_inserted k js))
       ]
     ]
 
@@ -80,10 +45,10 @@ in_kept i k [] h = absurd h
 in_kept i k (j ∷ js) h =
     let Has : List ℕ → Type 0 = λ l. In l i in
     elim (cases_order k j) [
-      | inl e ↦ subst Has (sym (inserted_at k j js e)) h
+      | inl e ↦ subst Has (sym (insert_strike-at k j js e)) h
       | inr apart ↦ elim apart [
-        | inl below ↦ subst Has (sym (inserted_below k j js below)) (inr h)
-        | inr above ↦ subst Has (sym (inserted_above k j js above)) (elim h [ inl e ↦ inl e | inr later ↦ inr (in_kept i k js later) ])
+        | inl below ↦ subst Has (sym (insert_strike-below k j js below)) (inr h)
+        | inr above ↦ subst Has (sym (insert_strike-above k j js above)) (elim h [ inl e ↦ inl e | inr later ↦ inr (in_kept i k js later) ])
       ]
     ]
 

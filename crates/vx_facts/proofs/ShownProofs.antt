@@ -14,7 +14,7 @@ use Rattle.vx_feed.specs.Listed.{series_at, strikes_of, is_strike_listed, listed
 use Rattle.vx_feed.specs.Opening.{opening_price}
 use Rattle.vx_feed.specs.Order.{AreLawful}
 use Rattle.vx_formula.proofs.Lists.{In, in_map, in_filter, all_from_in}
-use Rattle.vx_claims.proofs.RisingRows.{rows_rise}
+use Rattle.vx_feed.proofs.RisingStrikes.{rows_rise}
 use Rattle.vx_facts.specs.Shown.{StandingIsLawful, OpeningIsLawful}
 use Rattle.vx_facts.proofs.InRange.{AllInRange, lawful_in_range, before_is_lawful}
 use Rattle.vx_facts.proofs.StrikeCounts.{few_strikes, strike_in_range}

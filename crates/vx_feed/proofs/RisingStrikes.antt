@@ -1,10 +1,15 @@
--- Lists of strikes in rising order. The strikes of an expiry rise.
-use Rattle.std.proofs.Common.{◌≡◌, refl, sym, subst, ◌≤◌, ◌+◌, inl, inr, ℕ, Bool, true, false, List, [], ◌∷◌, Option, Some, None, arith}
+-- Lists of strikes in rising order. The strikes of an expiry rise, and so do its rows.
+use Rattle.std.proofs.Common.{◌≡◌, refl, sym, subst, ◌<◌, ◌≤◌, ◌+◌, inl, inr, ℕ, zero, suc, Bool, true, false, List, [], ◌∷◌, map, length, get_or, Option, Some, None, arith}
 use Rattle.std.specs.List.{filter}
 use Rattle.std.proofs.lemmas.Bool.{cases_Bool}
+use Rattle.std.proofs.lemmas.List.{length-map}
 use Rattle.vx_clock.specs.declared.terms.Expiry.{Expiry}
+use Rattle.vx_symbol.specs.declared.rows.Price.{Price}
+use Rattle.vx_symbol.specs.declared.rows.StrikeRow.{StrikeRow}
+use Rattle.vx_symbol.specs.declared.symbols.Symbol.{Symbol}
+use Rattle.vx_symbol.specs.Rows.{StrikesRise}
 use Rattle.vx_feed.specs.declared.events.Event.{Event}
-use Rattle.vx_feed.specs.Listed.{insert_strike, listed_strike, strikes_of, with_strike}
+use Rattle.vx_feed.specs.Listed.{insert_strike, is_strike_listed, listed_strike, listed_strikes, row_of, strikes_of, with_strike}
 use Rattle.vx_feed.proofs.NextEvent.{insert_strike-above, insert_strike-at, insert_strike-below, three_ways}
 
 -- in rising order, each at least this
@@ -59,3 +64,28 @@ filter_rises t low (j ∷ js) r =
       | inl passes ↦ subst From (sym (kept t j js passes)) (at, filter_rises t (j + 1) js r.1)
       | inr fails ↦ subst From (sym (dropped t j js fails)) (rises_weaker (j + 1) low (filter t js) (omega arith) (filter_rises t (j + 1) js r.1))
     ]
+
+-- ---- the rows of rising strikes
+
+rises_above : (price : Symbol → Price) (x : Expiry) (low : ℕ) (ks : List ℕ) → RisesFrom low ks → (j : ℕ) (d : StrikeRow)
+    → j < length ks → low ≤ (get_or (map (row_of price x) ks) j d).strike
+rises_above price x low [] r j d h = absurd (omega arith)
+rises_above price x low (k ∷ ks) r zero d h = r.0
+rises_above price x low (k ∷ ks) r (suc j) d h =
+    let a : low ≤ k = r.0 in
+    let b = rises_above price x (k + 1) ks r.1 j d (omega arith) in
+    omega arith
+
+pairs_rise : (price : Symbol → Price) (x : Expiry) (low : ℕ) (ks : List ℕ) → RisesFrom low ks → StrikesRise (map (row_of price x) ks)
+pairs_rise price x low [] r i j d lt within = absurd (omega arith)
+pairs_rise price x low (k ∷ ks) r i zero d lt within = absurd (omega arith)
+pairs_rise price x low (k ∷ ks) r zero (suc j) d lt within =
+    let same : length (map (row_of price x) ks) ≡ length ks = length-map ks (row_of price x) in
+    let b = rises_above price x (k + 1) ks r.1 j d (omega arith) in
+    omega arith
+pairs_rise price x low (k ∷ ks) r (suc i) (suc j) d lt within = pairs_rise price x (k + 1) ks r.1 i j d (omega arith) (omega arith)
+
+-- the listed rows of an expiry rise, whatever their prices
+pub rows_rise : (price : Symbol → Price) (x : Expiry) (events : List Event) → StrikesRise (map (row_of price x) (listed_strikes x events))
+rows_rise price x events =
+    pairs_rise price x 0 (listed_strikes x events) (filter_rises (is_strike_listed x events) 0 (strikes_of x events) (strikes_rise x events))

@@ -2,7 +2,10 @@
 use Rattle.std.proofs.Common.{◌≡◌, ℕ, ◌-◌, cond, eqb, ltb, refl, sym, ◌∙◌, ap, inl, inr}
 use Rattle.std.proofs.lemmas.Bool.{cases_order}
 use Rattle.vx_formula.specs.Term.{TermFacts}
-use Rattle.vx_formula.specs.Refusal.{IsFirst, TermReason, no_rate, no_pair, no_strike_below, no_strike_above, no_money, no_put, no_call, strip_too_large, TermRefuses, term_place, FirstTermRefusal, TickFacts, TickReason, no_near_term, no_next_term, of_near, of_next, negative_variance, TickRefuses, tick_place, FirstRefusal, OpeningFacts, OpeningReason, no_opening, no_term, of_term, negative_opening, OpeningRefuses, opening_place, FirstOpeningRefusal}
+use Rattle.vx_formula.specs.Refusal.{IsFirst}
+use Rattle.vx_formula.specs.Refusal.{TermReason, no_rate, no_pair, no_strike_below, no_strike_above, no_money, no_put, no_call, strip_too_large, TermRefuses, term_place, FirstTermRefusal}
+use Rattle.vx_formula.specs.Refusal.{TickFacts, TickReason, no_near_term, no_next_term, of_near, of_next, negative_variance, TickRefuses, tick_place, FirstRefusal}
+use Rattle.vx_formula.specs.Refusal.{OpeningFacts, OpeningReason, no_opening, no_term, of_term, negative_opening, OpeningRefuses, opening_place, FirstOpeningRefusal}
 
 same_place : {R : Type 0} (Holds : R → Type 0) (place : R → ℕ) (r s : R) → IsFirst Holds place r → IsFirst Holds place s → place r ≡ place s
 same_place Holds place r s h l =

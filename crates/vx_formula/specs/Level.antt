@@ -1,7 +1,8 @@
 -- The level K0. After the Cboe VIX white paper: the listed strike equal to the forward, or else the one immediately below it.
-use Rattle.std.specs.Prelude.{ℕ, ◌<◌, pos, List, map, slice_index, Contains, AllPairs}
+use Rattle.std.specs.Prelude.{ℕ, ◌<◌, pos, List, map, slice_index, Contains}
 use Rattle.vx_num.specs.Fraction.{Fraction, whole, ◌≤ᶠ◌, ◌<ᶠ◌}
 use Rattle.vx_symbol.specs.declared.rows.StrikeRow.{StrikeRow}
+pub use Rattle.vx_symbol.specs.Rows.{StrikesRise}
 use Rattle.vx_formula.specs.Term.{Term, InBracket}
 use Rattle.vx_formula.specs.Forward.{forward_at}
 
@@ -12,10 +13,6 @@ strikes rows = map (λ row. row.strike) rows
 -- the strike of the row at a place
 abbrev pub strike_at : List StrikeRow → ℕ → ℕ
 strike_at rows place = slice_index (strikes rows) place
-
--- each strike is below all later ones
-abbrev pub StrikesRise : List StrikeRow → Type 0
-StrikesRise rows = AllPairs (λ a b. a.strike < b.strike) rows
 
 abbrev pub IsListed : List StrikeRow → ℕ → Type 0
 IsListed rows strike = Contains (strikes rows) strike

@@ -3,7 +3,8 @@ use Rattle.std.proofs.Common.{sym, subst, ℕ, ◌<◌, ℤ, pos, ◌+ℤ◌, �
 use Rattle.std.proofs.lemmas.Option.{same_Some}
 use Rattle.vx_formula.specs.declared.limits.TheConstants.{FORWARD_WIDTH_MAX}
 use Rattle.vx_formula.specs.Term.{TermFacts}
-use Rattle.vx_formula.specs.Refusal.{TermReason, TermRefuses, FirstTermRefusal, TickFacts, TickReason, no_near_term, no_next_term, of_near, of_next, negative_variance, SomeTermRefuses, TickRefuses, tick_place, FirstRefusal, near_undecided_place, next_undecided_place, cents_undecided_place}
+use Rattle.vx_formula.specs.Refusal.{TermReason, TermRefuses, FirstTermRefusal, SomeTermRefuses}
+use Rattle.vx_formula.specs.Refusal.{TickFacts, TickReason, no_near_term, no_next_term, of_near, of_next, negative_variance, TickRefuses, tick_place, FirstRefusal, near_undecided_place, next_undecided_place, cents_undecided_place}
 use Rattle.vx_formula.proofs.RefusalPlaces.{place_range}
 use Rattle.vx_claims.specs.Answers.{LeavesForward}
 use Rattle.vx_claims.specs.declared.limits.TheConstants.{SCALE}

@@ -23,7 +23,8 @@ use Rattle.vx_formula.specs.Term.{TermFacts, Term as FormulaTerm}
 use Rattle.vx_formula.specs.Variance.{variance_at}
 use Rattle.vx_formula.specs.Index.{OneTermMeets, IsNegative}
 use Rattle.vx_formula.specs.Between.{BetweenAt}
-use Rattle.vx_formula.specs.Refusal.{TermReason, TermRefuses, term_place, FirstTermRefusal, OpeningFacts, IsOpeningBasis, OpeningReason, no_opening, no_term, of_term, negative_opening, SomeTermRefuses, OpeningRefuses, opening_place, FirstOpeningRefusal, opening_cents_undecided_place}
+use Rattle.vx_formula.specs.Refusal.{TermReason, TermRefuses, term_place, FirstTermRefusal, SomeTermRefuses}
+use Rattle.vx_formula.specs.Refusal.{OpeningFacts, IsOpeningBasis, OpeningReason, no_opening, no_term, of_term, negative_opening, OpeningRefuses, opening_place, FirstOpeningRefusal, opening_cents_undecided_place}
 use Rattle.vx_formula.proofs.RefusalPlaces.{place_range}
 use Rattle.vx_claims.specs.declared.acceptance.Test.{Test}
 use Rattle.vx_claims.specs.declared.acceptance.Test.TheVariants.{Place, Terms, Minutes, Rate, TaylorTerms, Exponential, ClosestPair, Forward, Level, Excess, Strip, Contributions, Total, Variance, Square, IndexEnds}

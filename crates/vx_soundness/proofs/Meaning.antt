@@ -49,7 +49,7 @@ use Rattle.vx_claims.specs.Means.{IsFigureOf, MeansSingle, MeansIndex, MeansOpen
 use Rattle.vx_claims.proofs.LevelLemmas.{trade_date_stands, means_level}
 use Rattle.vx_soundness.specs.Laws.{AcceptedMeans}
 use Rattle.vx_soundness.proofs.FigureLemmas.{square_proper, square_enclosed, single_proper, single_enclosed, between_stated, rounds_stated}
-use Rattle.vx_claims.proofs.RisingRows.{rows_rise}
+use Rattle.vx_feed.proofs.RisingStrikes.{rows_rise}
 use Rattle.vx_soundness.proofs.RowLemmas.{AllInRange, lawful_in_range, take_in_range, opening_in_range, rows_positive}
 use Rattle.vx_soundness.proofs.TermAt.{stated_term, term_of_facts, holds_at}
 use Rattle.vx_soundness.proofs.NoRefusal.{same_term, not_refused}

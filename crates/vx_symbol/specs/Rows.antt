@@ -18,11 +18,15 @@ pub record IsLawfulRow (row : StrikeRow) : Type 0 where
   pub put : IsLawfulPrice row.put
   pub call : IsLawfulPrice row.call
 
+-- each strike is below all later ones
+abbrev pub StrikesRise : List StrikeRow → Type 0
+StrikesRise rows = AllPairs (λ a b. a.strike < b.strike) rows
+
 -- at most 2,000 lawful rows, their strikes strictly rising
 pub record AreLawfulRows (rows : List StrikeRow) : Type 0 where
   pub count : length rows ≤ ROWS_MAX
   pub each : All IsLawfulRow rows
-  pub rising : AllPairs (λ a b. a.strike < b.strike) rows
+  pub rising : StrikesRise rows
 
 -- the rate is in range
 abbrev pub IsRateInRange : ℤ → Type 0
