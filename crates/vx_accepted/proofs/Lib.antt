@@ -21,3 +21,6 @@ pub mod FactsLawful
 -- the ranges of what is stated, and of declared expiries
 pub mod Statable
 pub mod DeclaredExpiries
+-- what is clear, and what is decided
+pub mod ClearTerms
+pub mod FigureDecisions

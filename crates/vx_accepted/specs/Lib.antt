@@ -3,3 +3,4 @@ pub mod Certified
 pub mod Statable
 pub mod Picked
 pub mod Facts
+pub mod Clear

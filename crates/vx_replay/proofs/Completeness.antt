@@ -1,23 +1,18 @@
 -- What is clear is answered.
 use Rattle.std.proofs.Common.{◌≡◌, ◌∙◌, sym, ap, subst, refl, ℕ, ◌-◌, ◌<◌, ◌≤◌, ℤ, List, Option, Some, None, arith}
-use Rattle.std.specs.Option.{IfSome}
 use Rattle.std.proofs.lemmas.Option.{same_Some}
 use Rattle.vx_clock.specs.declared.days.DayNo.{DayNo}
-use Rattle.vx_clock.specs.declared.terms.Expiry.{Expiry}
 use Rattle.vx_clock.specs.declared.terms.Moment.{Moment}
 use Rattle.vx_clock.specs.Minutes.{minutes_between}
-use Rattle.vx_symbol.specs.Rows.{IsRateInRange}
 use Rattle.vx_feed.specs.declared.events.Event.{Event}
 use Rattle.vx_feed.specs.Listed.{declared_expiries}
 use Rattle.vx_feed.specs.Order.{AreLawful}
-use Rattle.vx_formula.specs.Term.{TermFacts, Term as FormulaTerm, IsTermOf, HasSmallExponent}
+use Rattle.vx_formula.specs.Term.{TermFacts, IsTermOf}
 use Rattle.vx_formula.specs.Index.{TwoTerms}
-use Rattle.vx_formula.specs.Clear.{IsClearForward}
 use Rattle.vx_formula.specs.Refusal.{TickFacts, TickReason, no_near_term, no_next_term, of_near, of_next, negative_variance, TickRefuses, tick_place, FirstRefusal, near_undecided_place, next_undecided_place, cents_undecided_place}
 use Rattle.vx_formula.proofs.FigureLemmas.{clear_index_is_decided}
 use Rattle.vx_formula.proofs.RefusalLemmas.{first_refusal_is_one}
 use Rattle.vx_formula.proofs.RefusalPlaces.{not_before, past_forward, place_range}
-use Rattle.vx_formula.proofs.RangeLemmas.{exponent_is_small}
 use Rattle.vx_claims.specs.declared.limits.TheConstants.{SCALE}
 use Rattle.vx_claims.specs.Seen.{events_before, moment_of, term_facts, AreNearFacts, AreNextFacts, AreTickFacts}
 use Rattle.vx_claims.specs.Answers.{RefusesTick, LeavesCents, LeavesNearForward, LeavesNextForward}
@@ -25,11 +20,11 @@ use Rattle.vx_facts.proofs.ShownProofs.{standing_is_lawful}
 use Rattle.vx_facts.proofs.InRange.{take_is_lawful}
 use Rattle.vx_term.specs.declared.answer.TermAnswer.{TermAnswer}
 use Rattle.vx_term.specs.declared.answer.TermAnswer.TheVariants as term
-use Rattle.vx_term.specs.Answer.{IsTermAnswer}
 use Rattle.vx_term.specs.Ranges.{AreFactsLawful}
 use Rattle.vx_term.specs.Tight.{IsForwardDecided}
-use Rattle.vx_term.proofs.TermLaws.{term_answer_means, clear_answer_is_decided}
+use Rattle.vx_accepted.specs.Clear.{HasClearForward, HasClearIndex}
 use Rattle.vx_accepted.specs.Picked.{AreMinutesOfPicked}
+use Rattle.vx_accepted.proofs.ClearTerms.{clear_forward_is_decided, exponent_of_facts_is_small}
 use Rattle.vx_accepted.proofs.PickedMinutes.{picked_minutes_are_in_range}
 use Rattle.vx_replay.specs.declared.answer.TickAnswer.{TickAnswer}
 use Rattle.vx_replay.specs.declared.answer.TickAnswer.TheVariants.{Published, UndecidedCents, UndecidedForward, Refused}
@@ -37,7 +32,7 @@ use Rattle.vx_replay.specs.declared.answer.Which.TheVariants.{Near, Next, Both}
 use Rattle.vx_replay.specs.Joined.{IsJoined}
 use Rattle.vx_replay.specs.Ticks.{IsAnswerOfTerms}
 use Rattle.vx_replay.specs.Lawful.{IsLawfulAnswer}
-use Rattle.vx_replay.specs.Complete.{HasClearForward, HasClearIndex, IsAnswered, ClearTickIsPublished, FirstRefusalIsAnswered}
+use Rattle.vx_replay.specs.Complete.{IsAnswered, ClearTickIsPublished, FirstRefusalIsAnswered}
 use Rattle.vx_replay.proofs.LawfulTicks.{tick_answer_is_lawful}
 use Rattle.vx_clock.proofs.TermsAreOne.{near_is_one, next_is_one}
 
@@ -86,21 +81,6 @@ module _ (line time days : ℕ) (strike : ℕ) (lo hi : ℤ) where
   next_is_decided (term.Refused refusal) next decided joined = cc
   next_is_decided (term.UndecidedForward s l h) next decided joined = cc
 
-clear_term : (x : Expiry) (f : TermFacts) → AreFactsLawful f → ((t : FormulaTerm) → IsTermOf f t → IsClearForward t) → (a : TermAnswer SCALE) → IsTermAnswer SCALE x f a → IsForwardDecided SCALE a
-clear_term x f lawful clear (term.Run run) h = tt
-clear_term x f lawful clear (term.Refused refusal) h = tt
-clear_term x f lawful clear (term.UndecidedForward strike lo hi) h =
-    let means = term_answer_means SCALE x f lawful (term.UndecidedForward strike lo hi) h in
-    clear_answer_is_decided SCALE x f lawful means.term means.is_of_facts (omega arith, omega arith) (omega arith) (clear means.term means.is_of_facts) (term.UndecidedForward strike lo hi) h
-
--- the exponent of a term of lawful facts is small
-small_of : (f : TermFacts) (t : FormulaTerm) → AreFactsLawful f → IsTermOf f t → HasSmallExponent t
-small_of f t lawful of =
-    let most = (lawful.minutes).1 in
-    let same = of.minutes_are in
-    let rate = subst (λ (r : Option ℤ). IfSome r IsRateInRange) of.rate_stands lawful.rate in
-    (exponent_is_small t rate (omega (arith, most, same))).1
-
 -- ---- a tick
 
 module _ (days window : ℕ) (events : List Event) (line time : ℕ) (facts : TickFacts) (answer : TickAnswer) (is : IsAnswered days window events line time facts answer) where
@@ -140,10 +120,10 @@ module _ (days window : ℕ) (events : List Event) (line time : ℕ) (facts : Ti
     next_lawful = let shown = standing_is_lawful h.next before before_lawful in record { rows = shown.rows_are; rate = shown.rate_is; minutes = picked.next }
 
     near_decided : HasClearForward facts.near → IsForwardDecided SCALE h.near_answer
-    near_decided clear = clear_term h.near (term_facts before now h.near) near_lawful (λ t of. clear (term_facts before now h.near) t near_are of) h.near_answer h.is_near_answer
+    near_decided clear = clear_forward_is_decided facts.near h.near (term_facts before now h.near) near_are near_lawful clear h.near_answer h.is_near_answer
 
     next_decided : HasClearForward facts.next → IsForwardDecided SCALE h.next_answer
-    next_decided clear = clear_term h.next (term_facts before now h.next) next_lawful (λ t of. clear (term_facts before now h.next) t next_are of) h.next_answer h.is_next_answer
+    next_decided clear = clear_forward_is_decided facts.next h.next (term_facts before now h.next) next_are next_lawful clear h.next_answer h.is_next_answer
 
     -- with a clear index the figure is not undecided
     cents_are_decided : HasClearIndex facts → (lo hi : ℤ) → LeavesCents events line time days window lo hi → ⊥
@@ -156,8 +136,8 @@ module _ (days window : ℕ) (events : List Event) (line time : ℕ) (facts : Ti
         let next_facts = same_Some (term_facts before now h.next) basis.next_facts next_is in
         let near_of = subst (λ (f : TermFacts). IsTermOf f leaves.near) (sym near_facts) basis.near_of in
         let next_of = subst (λ (f : TermFacts). IsTermOf f leaves.next) (sym next_facts) basis.next_of in
-        let small_near = small_of (term_facts before now h.near) leaves.near near_lawful near_of in
-        let small_next = small_of (term_facts before now h.next) leaves.next next_lawful next_of in
+        let small_near = exponent_of_facts_is_small (term_facts before now h.near) leaves.near near_lawful near_of in
+        let small_next = exponent_of_facts_is_small (term_facts before now h.next) leaves.next next_lawful next_of in
         let here : HasClearIndex leaves.facts = subst HasClearIndex (sym same) clear in
         clear_index_is_decided (TwoTerms leaves.near leaves.next leaves.facts.target) lo hi (small_near, small_next) (here leaves.near leaves.next basis) leaves.undecided
 

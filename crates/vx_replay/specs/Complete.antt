@@ -1,28 +1,19 @@
 -- What a tick is sure to be answered: a figure, or the first refusal, where all that comes before is far from every boundary.
-use Rattle.std.specs.Prelude.{◌≡◌, ℕ, ◌<◌, List, Option, Some}
+use Rattle.std.specs.Prelude.{◌≡◌, ℕ, ◌<◌, List, Some}
 use Rattle.vx_feed.specs.declared.events.Event.{Event}
 use Rattle.vx_feed.specs.Order.{AreLawful}
-use Rattle.vx_formula.specs.Term.{TermFacts, Term, IsTermOf}
-use Rattle.vx_formula.specs.Index.{TwoTerms}
-use Rattle.vx_formula.specs.Clear.{IsClearForward, IsClearIndex}
-use Rattle.vx_formula.specs.Refusal.{TickFacts, IsTickBasis, TickReason, negative_variance, TickRefuses, tick_place, FirstRefusal, near_undecided_place, next_undecided_place}
+use Rattle.vx_formula.specs.Refusal.{TickFacts, TickReason, negative_variance, TickRefuses, tick_place, FirstRefusal, near_undecided_place, next_undecided_place}
 use Rattle.vx_claims.specs.declared.limits.TheConstants.{SCALE}
 use Rattle.vx_claims.specs.Seen.{AreTickFacts}
 use Rattle.vx_term.specs.Ranges.{AreDaysInRange}
+use Rattle.vx_accepted.specs.Clear.{HasClearForward, HasClearIndex}
 use Rattle.vx_accepted.specs.Picked.{IsWindowInRange}
 use Rattle.vx_replay.specs.declared.answer.TickAnswer.{TickAnswer}
 use Rattle.vx_replay.specs.declared.answer.TickAnswer.TheVariants.{Published, Refused}
 use Rattle.vx_replay.specs.Ticks.{IsTickAnswer}
 use Rattle.vx_replay.specs.Lawful.{tick_reason}
 
--- the forward of a term is clear, if there is the term
-abbrev pub HasClearForward : Option TermFacts → Type 0
-HasClearForward chosen = (facts : TermFacts) (term : Term) → chosen ≡ Some facts → IsTermOf facts term → IsClearForward term
-
--- and the index, if there are both
-abbrev pub HasClearIndex : TickFacts → Type 0
-HasClearIndex facts = (near next : Term) → IsTickBasis facts near next → IsClearIndex (TwoTerms near next facts.target)
-
+-- the answer is a figure
 abbrev pub IsPublished : TickAnswer → Type 0
 IsPublished (Published cents lo hi certificate) = Unit {0}
 IsPublished _ = ⊥

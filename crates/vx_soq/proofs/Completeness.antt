@@ -1,17 +1,14 @@
 -- What is clear at the opening is answered.
-use Rattle.std.proofs.Common.{◌≡◌, ◌∙◌, sym, subst, refl, ℕ, ◌<◌, ◌≤◌, ℤ, List, Option, Some, arith}
-use Rattle.std.specs.Option.{IfSome}
+use Rattle.std.proofs.Common.{◌≡◌, ◌∙◌, sym, subst, refl, ℕ, ◌<◌, ◌≤◌, ℤ, List, Some, arith}
 use Rattle.std.proofs.lemmas.Option.{same_Some}
-use Rattle.vx_symbol.specs.Rows.{IsRateInRange}
 use Rattle.vx_feed.specs.declared.events.Event.{Event}
 use Rattle.vx_feed.specs.Order.{AreLawful}
-use Rattle.vx_formula.specs.Term.{TermFacts, Term as FormulaTerm, IsTermOf, HasSmallExponent}
+use Rattle.vx_formula.specs.Term.{TermFacts, IsTermOf}
 use Rattle.vx_formula.specs.Index.{OneTerm}
 use Rattle.vx_formula.specs.Refusal.{OpeningReason, no_opening, no_term, of_term, negative_opening, OpeningRefuses, opening_place, opening_undecided_place, opening_cents_undecided_place}
 use Rattle.vx_formula.proofs.FigureLemmas.{clear_index_is_decided}
 use Rattle.vx_formula.proofs.RefusalLemmas.{first_opening_refusal_is_one}
 use Rattle.vx_formula.proofs.RefusalPlaces.{not_before, past_forward, place_range}
-use Rattle.vx_formula.proofs.RangeLemmas.{exponent_is_small}
 use Rattle.vx_claims.specs.declared.limits.TheConstants.{SCALE}
 use Rattle.vx_claims.specs.Seen.{opening_expiry, opening_term_facts, opening_facts}
 use Rattle.vx_claims.specs.Answers.{LeavesOpeningForward, LeavesOpeningCents}
@@ -20,12 +17,13 @@ use Rattle.vx_term.specs.declared.answer.TermAnswer.TheVariants as term
 use Rattle.vx_term.specs.Answer.{IsTermAnswer}
 use Rattle.vx_term.specs.Ranges.{AreFactsLawful}
 use Rattle.vx_term.specs.Tight.{IsForwardDecided}
-use Rattle.vx_term.proofs.TermLaws.{term_answer_means, clear_answer_is_decided}
+use Rattle.vx_accepted.specs.Clear.{HasClearForward, HasClearOpeningIndex}
+use Rattle.vx_accepted.proofs.ClearTerms.{clear_forward_is_decided, exponent_of_facts_is_small}
 use Rattle.vx_soq.specs.declared.answer.OpeningAnswer.{OpeningAnswer}
 use Rattle.vx_soq.specs.declared.answer.OpeningAnswer.TheVariants.{Published, Refused, UndecidedForward, UndecidedCents}
 use Rattle.vx_soq.specs.Figures.{IsJoined}
 use Rattle.vx_soq.specs.Openings.{IsAnswerOfTerm}
-use Rattle.vx_soq.specs.Complete.{HasClearForward, HasClearIndex, ClearOpeningIsPublished, FirstOpeningRefusalIsAnswered}
+use Rattle.vx_soq.specs.Complete.{ClearOpeningIsPublished, FirstOpeningRefusalIsAnswered}
 use Rattle.vx_soq.proofs.LawfulOpenings.{facts_lawful, term_is, declared_from, opening_answer_is_lawful}
 
 -- a decided term leaves no undecided forward
@@ -47,29 +45,16 @@ module _ (events : List Event) (answer : OpeningAnswer) (lawful : AreLawful even
   term_answer : IsTermAnswer SCALE (opening_expiry h.day) facts h.term_answer
   term_answer = subst (λ (f : TermFacts). IsTermAnswer SCALE (opening_expiry h.day) f h.term_answer) (sym (declared_from events h.day h.facts h.facts_are).1) h.is_term_answer
 
-  decided : HasClearForward events → (a : TermAnswer SCALE) → IsTermAnswer SCALE (opening_expiry h.day) facts a → IsForwardDecided SCALE a
-  decided clear (term.Run run) is = tt
-  decided clear (term.Refused refusal) is = tt
-  decided clear (term.UndecidedForward strike lo hi) is =
-      let means = term_answer_means SCALE (opening_expiry h.day) facts lawful_facts (term.UndecidedForward strike lo hi) is in
-      clear_answer_is_decided SCALE (opening_expiry h.day) facts lawful_facts means.term means.is_of_facts (omega arith, omega arith) (omega arith)
-      (clear facts means.term facts_are means.is_of_facts) (term.UndecidedForward strike lo hi) is
+  forward_is_decided : HasClearForward (opening_facts events).term → IsForwardDecided SCALE h.term_answer
+  forward_is_decided clear =
+      clear_forward_is_decided (opening_facts events).term (opening_expiry h.day) facts facts_are lawful_facts clear h.term_answer term_answer
 
-  forward_is_decided : HasClearForward events → IsForwardDecided SCALE h.term_answer
-  forward_is_decided clear = decided clear h.term_answer term_answer
-
-  small_of : (t : FormulaTerm) → IsTermOf facts t → HasSmallExponent t
-  small_of t of =
-      let same = of.minutes_are in
-      let rate = subst (λ (r : Option ℤ). IfSome r IsRateInRange) of.rate_stands lawful_facts.rate in
-      (exponent_is_small t rate (omega (arith, same))).1
-
-  cents_are_decided : HasClearIndex events → (lo hi : ℤ) → LeavesOpeningCents events lo hi → ⊥
+  cents_are_decided : HasClearOpeningIndex (opening_facts events) → (lo hi : ℤ) → LeavesOpeningCents events lo hi → ⊥
   cents_are_decided clear lo hi leaves =
       let basis = leaves.is_basis in
       let same = same_Some facts basis.term_facts (sym facts_are ∙ basis.term_is) in
       let of = subst (λ (f : TermFacts). IsTermOf f leaves.term) (sym same) basis.term_of in
-      clear_index_is_decided (OneTerm leaves.term) lo hi (small_of leaves.term of) (clear facts leaves.term facts_are of) leaves.undecided
+      clear_index_is_decided (OneTerm leaves.term) lo hi (exponent_of_facts_is_small facts leaves.term lawful_facts of) (clear facts leaves.term facts_are of) leaves.undecided
 
 -- where nothing is refused and all is clear, a figure is published
 pub clear_opening_is_published : ClearOpeningIsPublished

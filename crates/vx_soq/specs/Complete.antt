@@ -1,29 +1,18 @@
 -- What the opening is sure to be answered: a figure, or the first refusal, where all is far from every boundary.
-use Rattle.std.specs.Prelude.{◌≡◌, ◌<◌, List, Some}
+use Rattle.std.specs.Prelude.{◌≡◌, ◌<◌, List}
 use Rattle.vx_feed.specs.declared.events.Event.{Event}
 use Rattle.vx_feed.specs.Order.{AreLawful}
-use Rattle.vx_formula.specs.Term.{TermFacts, Term, IsTermOf}
-use Rattle.vx_formula.specs.Index.{OneTerm}
-use Rattle.vx_formula.specs.Clear.{IsClearForward, IsClearIndex}
 use Rattle.vx_formula.specs.Refusal.{OpeningReason, negative_opening, OpeningRefuses, opening_place, opening_undecided_place}
 use Rattle.vx_claims.specs.declared.limits.TheConstants.{SCALE}
 use Rattle.vx_claims.specs.Seen.{opening_facts}
 use Rattle.vx_claims.specs.Answers.{RefusesOpening}
+use Rattle.vx_accepted.specs.Clear.{HasClearForward, HasClearOpeningIndex}
 use Rattle.vx_soq.specs.declared.answer.OpeningAnswer.{OpeningAnswer}
 use Rattle.vx_soq.specs.declared.answer.OpeningAnswer.TheVariants.{Published, Refused}
 use Rattle.vx_soq.specs.Openings.{IsOpeningAnswer}
 use Rattle.vx_soq.specs.Lawful.{opening_reason}
 
--- the forward of the opening's term is clear, if there is one
-abbrev pub HasClearForward : List Event → Type 0
-HasClearForward events = (facts : TermFacts) (term : Term) →
-    (opening_facts events).term ≡ Some facts → IsTermOf facts term → IsClearForward term
-
--- and the index
-abbrev pub HasClearIndex : List Event → Type 0
-HasClearIndex events = (facts : TermFacts) (term : Term) →
-    (opening_facts events).term ≡ Some facts → IsTermOf facts term → IsClearIndex (OneTerm term)
-
+-- the answer is a figure
 abbrev pub IsPublished : OpeningAnswer → Type 0
 IsPublished (Published figure) = Unit {0}
 IsPublished _ = ⊥
@@ -37,14 +26,14 @@ IsRefusedFor refusal _ = ⊥
 abbrev pub PublishesWhereClear : List Event → OpeningAnswer → Type 0
 PublishesWhereClear events answer =
     ((reason : OpeningReason) → ¬ OpeningRefuses SCALE (opening_facts events) reason) →
-    HasClearForward events → HasClearIndex events → IsPublished answer
+    HasClearForward (opening_facts events).term → HasClearOpeningIndex (opening_facts events) → IsPublished answer
 
 -- where a refusal is the first that holds, and the forward is clear if its undecided answer comes before it, it is that
 -- refusal; for a negative variance the index is to be clear too
 abbrev pub RefusesWhereClear : List Event → OpeningAnswer → Type 0
 RefusesWhereClear events answer = (reason : OpeningReason) → RefusesOpening events reason →
-    (opening_undecided_place < opening_place reason → HasClearForward events) →
-    (reason ≡ negative_opening → HasClearIndex events) → IsRefusedFor reason answer
+    (opening_undecided_place < opening_place reason → HasClearForward (opening_facts events).term) →
+    (reason ≡ negative_opening → HasClearOpeningIndex (opening_facts events)) → IsRefusedFor reason answer
 
 -- the answer to the opening of lawful events is so
 abbrev pub ClearOpeningIsPublished : Type 0
