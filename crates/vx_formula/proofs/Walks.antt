@@ -44,6 +44,21 @@ in_order rows i j a b rise p q below = elim (cases_order i j) [
   ]
 ]
 
+-- a row that stands in the list at a place is the row of that place
+pub at_place : (rows : List StrikeRow) (place : ℕ) (row : StrikeRow) → place < length rows → get_or rows place row ≡ row → slice_get rows place ≡ Some row
+at_place rows place row within is = slice_get-get_or rows place row within ∙ ap (λ r. Some r) is
+
+-- no row at another place has the strike of a row
+pub one_at_strike : (rows : List StrikeRow) (i j : ℕ) (a b : StrikeRow) → StrikesRise rows → slice_get rows i ≡ Some a → slice_get rows j ≡ Some b → a.strike ≡ b.strike → i ≡ j
+one_at_strike rows i j a b rise p q same =
+    elim (cases_order i j) [
+      | inl here ↦ here
+      | inr apart ↦ elim apart [
+        | inl below ↦ (let less = rises rows i j a b rise p q below in absurd (omega (arith, less, same)))
+        | inr above ↦ (let more = rises rows j i b a rise q p above in absurd (omega (arith, more, same)))
+      ]
+    ]
+
 module _ (rows : List StrikeRow) (k0 : ℕ) (level row : StrikeRow) (place : ℕ) (rise : StrikesRise rows) (level_is : slice_get rows k0 ≡ Some level) (row_is : slice_get rows place ≡ Some row) where
   -- a row at a lower place is selected where the walk reaches it and its put is live
   reaches_low : (low : ℕ) → IsLowestReached rows k0 low → place < k0 → IsSelectedPut rows level.strike row → low ≤ place

@@ -13,27 +13,16 @@ use Rattle.vx_formula.specs.Selection.{is_selected, selected_rows}
 use Rattle.vx_formula.specs.Refusal.{LacksMoney, HasNoPut, HasNoCall}
 use Rattle.vx_formula.proofs.SelectionLemmas.{selected_rows_rise, level_is_selected}
 use Rattle.vx_strip.specs.Entries.{strike_at}
-use Rattle.vx_formula.proofs.Walks.{no_row, in_order, rises}
-
--- an element stands at some place
-at_place : (rows : List StrikeRow) (k : ℕ) (row : StrikeRow) → k < length rows → get_or rows k row ≡ row → slice_get rows k ≡ Some row
-at_place rows k row low is = slice_get-get_or rows k row low ∙ ap Some is
+use Rattle.vx_formula.proofs.Walks.{no_row, at_place, in_order, one_at_strike}
 
 pub strike_at_read : (rows : List StrikeRow) (k0 : ℕ) → k0 < length rows → strike_at rows k0 ≡ (get_or rows k0 no_row).strike
 strike_at_read rows k0 listed = get_or-map (λ r. r.strike) rows k0 no_row 0 listed
-
--- no other row has the level's strike
-one_at_level : (rows : List StrikeRow) (k0 k : ℕ) (level row : StrikeRow) → StrikesRise rows → slice_get rows k0 ≡ Some level → slice_get rows k ≡ Some row → row.strike ≡ level.strike → k ≡ k0
-one_at_level rows k0 k level row rise p q same =
-    let not_below : k < k0 → ⊥ = λ below. let less : row.strike < level.strike = rises rows k k0 row level rise q p below in omega arith in
-    let not_above : k0 < k → ⊥ = λ above. let less : level.strike < row.strike = rises rows k0 k level row rise p q above in omega arith in
-    grind (arith, not_below, not_above)
 
 pub has_money : (rows : List StrikeRow) (k0 : ℕ) → StrikesRise rows → k0 < length rows → ((get_or rows k0 no_row).put.there && (get_or rows k0 no_row).call.there) ≡ true → ¬ LacksMoney rows (strike_at rows k0)
 has_money rows k0 rise listed there lacks =
     let c = lacks.listed in
     let here : slice_get rows c.0 ≡ Some lacks.row = at_place rows c.0 lacks.row c.1 c.2 in
-    let place : c.0 ≡ k0 = one_at_level rows k0 c.0 (get_or rows k0 no_row) lacks.row rise (slice_get-get_or rows k0 no_row listed) here (lacks.at_level ∙ strike_at_read rows k0 listed) in
+    let place : c.0 ≡ k0 = one_at_strike rows c.0 k0 lacks.row (get_or rows k0 no_row) rise here (slice_get-get_or rows k0 no_row listed) (lacks.at_level ∙ strike_at_read rows k0 listed) in
     let same : get_or rows k0 no_row ≡ lacks.row = ap (λ n. get_or rows n no_row) (sym place) ∙ get_or_default rows c.0 no_row lacks.row c.1 ∙ c.2 in
     both_ways (lacks.row.put.there && lacks.row.call.there) lacks.lacks (ap (λ (r : StrikeRow). r.put.there && r.call.there) (sym same) ∙ there)
 

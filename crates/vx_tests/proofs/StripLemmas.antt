@@ -1,15 +1,15 @@
 -- The stated rows are the strip where their strikes and prices are those of the selected rows and their widths are those between
 -- their own neighbours.
-use Rattle.std.proofs.Common.{◌≡◌, ◌≢◌, ◌↔◌, ◌&&◌, ℕ, ◌+◌, ◌<◌, ◌≤◌, Bool, true, false, List, [], ◌∷◌, map, drop, length, get_or, slice_get, slice_index_or, Option, Some, refl, sym, ◌∙◌, ap, subst, inl, inr, length-drop, arith}
+use Rattle.std.proofs.Common.{◌≡◌, ◌≢◌, ◌↔◌, ◌&&◌, ℕ, ◌+◌, ◌<◌, ◌≤◌, Bool, true, false, List, [], ◌∷◌, map, drop, length, get_or, slice_get, Option, Some, refl, sym, ◌∙◌, ap, subst, inl, inr, length-drop, arith}
 use Rattle.std.proofs.lemmas.List.{drop_more, drop_all, get_or_default}
 use Rattle.std.proofs.lemmas.Option.{slice_get-get_or, same_Some}
 use Rattle.std.specs.List.{filter}
-use Rattle.std.proofs.lemmas.Bool.{cond-true, cond-false, cases_lt, cases_order}
+use Rattle.std.proofs.lemmas.Bool.{cond-true, cond-false, cases_lt}
 use Rattle.vx_symbol.specs.declared.rows.StrikeRow.{StrikeRow}
 use Rattle.vx_cert.specs.declared.rows.CertRow.{CertRow}
 use Rattle.vx_formula.specs.Level.{StrikesRise, strike_at}
 use Rattle.vx_formula.specs.Strip.{StripEntry, doubled_width, strip_price, first_strike, entries_after, strip}
-use Rattle.vx_formula.proofs.Walks.{no_row, strike_at_is, rises}
+use Rattle.vx_formula.proofs.Walks.{no_row, at_place, one_at_strike, strike_at_is}
 use Rattle.vx_claims.specs.TermTests.{stated_entry, IsStatedStrip}
 use Rattle.vx_tests.specs.Stated.{Priced, HasSides, stated_price, strip_price_of, first_stated, AreWidths}
 
@@ -137,9 +137,6 @@ none_left level stated next within = (
 
 -- ---- the level's own row
 
-at_place : (rows : List StrikeRow) (k : ℕ) (row : StrikeRow) → k < length rows → slice_index_or rows k row ≡ row → slice_get rows k ≡ Some row
-at_place rows k row within same = slice_get-get_or rows k row within ∙ ap Some same
-
 module _ (rows : List StrikeRow) (level k0 : ℕ) (stated : List CertRow) (rise : StrikesRise rows) (listed : level < length rows) (at : strike_at rows level ≡ k0) where
   own : StrikeRow
   own = get_or rows level no_row
@@ -154,13 +151,8 @@ module _ (rows : List StrikeRow) (level k0 : ℕ) (stated : List CertRow) (rise 
   -- a row of the level's strike is the level's
   only_row : (k : ℕ) (row : StrikeRow) → slice_get rows k ≡ Some row → row.strike ≡ k0 → row ≡ own
   only_row k row is same =
-      elim (cases_order k level) [
-        | inl here ↦ same_Some row own (sym is ∙ ap (slice_get rows) here ∙ own_is)
-        | inr apart ↦ elim apart [
-          | inl below ↦ (let less = rises rows k level row own rise is own_is below in absurd (omega (arith, own_strike)))
-          | inr above ↦ (let more = rises rows level k own row rise own_is is above in absurd (omega (arith, own_strike)))
-        ]
-      ]
+      let here : k ≡ level = one_at_strike rows k level row own rise is own_is (same ∙ sym own_strike) in
+      same_Some row own (sym is ∙ ap (slice_get rows) here ∙ own_is)
 
   pub strip_stated : HasSides (get_or rows level no_row) k0 stated → map stated_entry stated ≡ strip rows (strike_at rows level) → IsStatedStrip rows k0 stated
   unfolding own
