@@ -203,9 +203,11 @@ opening_taken xs tables trade terms events time unopened trades ranges h takes =
       (λ table there stands.
       let took = takes.each i x table at there in
       let shows = stands.shows in
+      let same_price : (s : Symbol) → traded_price (trade s) (standing_price events s) ≡ price_by events s = λ s.
+      ap (λ t. traded_price t (standing_price events s)) (trades s ∙ ap (λ l. first_said (trade_of s) (since_listed s l)) (before_opening-all events unopened)) in
       let rows_due : rows_with_trades trade x (listed_rows x events) ≡ opening_rows x (with_opening events time) =
       traded_rows trade (standing_price events) x (listed_strikes x events)
-      ∙ same_prices (λ s. traded_price (trade s) (standing_price events s)) (price_by events) (λ s. ap (λ t. traded_price t (standing_price events s)) (trades s ∙ ap (λ l. first_said (trade_of s) (since_listed s l)) (before_opening-all events unopened))) x (listed_strikes x events)
+      ∙ same_prices (λ s. traded_price (trade s) (standing_price events s)) (price_by events) same_price x (listed_strikes x events)
       ∙ sym (ap (rows_by x) (before_now events time unopened)) in
       let rate_due : standing_rate x events ≡ opening_rate x (with_opening events time) = sym (ap (standing_rate x) (before_now events time unopened)) in
       let Lawful : List StrikeRow → Type 0 = AreLawfulRows in

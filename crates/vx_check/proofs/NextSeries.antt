@@ -53,7 +53,13 @@ pub record SaysOfStrike (x : Expiry) (events : List Event) (k : ℕ) (lp lc : Bo
   pub put_price : standing_price events (series_at x Put k) ≡ pp
   pub call_price : standing_price events (series_at x Call k) ≡ pc
 
-says_now : (x : Expiry) (events : List Event) (k : ℕ) → SaysOfStrike x events k (is_listed (series_at x Put k) events) (is_listed (series_at x Call k) events) (standing_price events (series_at x Put k)) (standing_price events (series_at x Call k))
+-- the events say of the strike what these others do
+abbrev SaysLike : Expiry → List Event → List Event → ℕ → Type 0
+SaysLike x events others k =
+    SaysOfStrike x events k (is_listed (series_at x Put k) others) (is_listed (series_at x Call k) others)
+    (standing_price others (series_at x Put k)) (standing_price others (series_at x Call k))
+
+says_now : (x : Expiry) (events : List Event) (k : ℕ) → SaysLike x events events k
 says_now x events k = record { put_listed = refl; call_listed = refl; put_price = refl; call_price = refl }
 
 four : {X : Type 0} (f : Bool → Bool → Price → Price → X) (a a' b b' : Bool) (p p' q q' : Price) → a ≡ a' → b ≡ b' → p ≡ p' → q ≡ q' → f a b p q ≡ f a' b' p' q'
@@ -87,7 +93,7 @@ abbrev pub IsQuietAt : Expiry → ℕ → Event → Type 0
 IsQuietAt x k e = (side : Side) → (lists_series (series_at x side k) e ≡ false) × (quote_of (series_at x side k) e ≡ None)
 
 says_as_before : (x : Expiry) (events : List Event) (e : Event) (k : ℕ) → IsQuietAt x k e
-    → SaysOfStrike x (events ++ e ∷ []) k (is_listed (series_at x Put k) events) (is_listed (series_at x Call k) events) (standing_price events (series_at x Put k)) (standing_price events (series_at x Call k))
+    → SaysLike x (events ++ e ∷ []) events k
 says_as_before x events e k quiet = record {
   put_listed = listed_as_before (series_at x Put k) events e (quiet Put).0;
   call_listed = listed_as_before (series_at x Call k) events e (quiet Call).0;

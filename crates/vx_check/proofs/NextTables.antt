@@ -115,7 +115,8 @@ says_rate (Some t) (Some u) x rate events there both h =
 
 -- ---- a series
 
-says_listed : (o new : Option Table) (s : Symbol) (events : List Event) → is_listed s events ≡ false → o ≢ None → AreBoth (ListsInTable s.side s.strike) o new → Says o (expiry_of s) events → Says new (expiry_of s) (events ++ event.Series s ∷ [])
+says_listed : (o new : Option Table) (s : Symbol) (events : List Event) → is_listed s events ≡ false → o ≢ None
+    → AreBoth (ListsInTable s.side s.strike) o new → Says o (expiry_of s) events → Says new (expiry_of s) (events ++ event.Series s ∷ [])
 says_listed None new s events unlisted there both h = absurd (there refl)
 says_listed (Some t) None s events unlisted there both h = absurd both
 says_listed (Some t) (Some u) s events unlisted there both h =
