@@ -22,7 +22,7 @@ use Rattle.vx_book.specs.declared.series.Series.{Series}
 use Rattle.vx_book.specs.declared.table.Table.{Table}
 use Rattle.vx_book.specs.Tables.{price_of}
 use Rattle.vx_book.specs.StandsFor.{KeptStandsFor, PlaceStandsFor, SeriesStandsFor, strike_kept}
-use Rattle.vx_book.proofs.Quiet.{listed_same, listed_still, price_same, trade_opened, trade_same}
+use Rattle.vx_feed.proofs.SameAfter.{listed_same, listed_still, price_same, trade_opened, trade_same}
 use Rattle.vx_book.proofs.Terms.{expiry_itself}
 
 -- the event lists neither the series nor the one on its other side, and leaves its trade as it is, and its price where it is kept by itself

@@ -29,7 +29,8 @@ use Rattle.vx_book.specs.Series.{kept}
 use Rattle.vx_book.specs.Tables.{ArePlaces, strike_of_row}
 use Rattle.vx_book.specs.StandsFor.{AreDistinct, AreOrderly, MayApply, OpeningStandsFor, SeriesStandsFor, Shows, StandsFor, TableStandsFor, TablesStandFor, counted, strike_kept}
 use Rattle.vx_book.proofs.Places.{get_before, get_unwritten, get_written}
-use Rattle.vx_book.proofs.Quiet.{apart, rate_same, rows_same}
+use Rattle.vx_feed.proofs.SameAfter.{rate_same}
+use Rattle.vx_book.proofs.Quiet.{rows_same}
 use Rattle.vx_book.proofs.Terms.{LeavesTerm, and_there, distinct_added, expiry_itself, tables_added, tables_changed, tables_left}
 use Rattle.vx_book.proofs.Kept.{keeps_all, says_nothing, series_left}
 use Rattle.vx_book.proofs.Room.{few_still, orderly_next}

@@ -34,10 +34,11 @@ use Rattle.vx_book.specs.Tables.{AddsRow, ArePlaces, IsSameTable, SetsPrice, pri
 use Rattle.vx_feed.specs.Opening.{opening_rate, opening_rows}
 use Rattle.vx_book.specs.Opening.{TakesOpening, kept_opening_rate, kept_opening_rows}
 use Rattle.vx_book.specs.StandsFor.{AreOrderly, KeptStandsFor, MayApply, PlaceStandsFor, SeriesStandsFor, Shows, StandsFor, TableStandsFor, TablesStandFor, counted, strike_kept}
-use Rattle.vx_feed.proofs.NextRows.{next_rows_listed, sides_without}
+use Rattle.vx_feed.proofs.NextRows.{apart_series, next_rows_listed, sides_without}
 use Rattle.vx_book.proofs.Places.{get_unwritten, get_written, position_says}
 use Rattle.vx_book.proofs.Rows.{has_row, strike_from_row}
-use Rattle.vx_book.proofs.Quiet.{apart, listed_same, price_same, rate_same, rows_quoted, rows_with_unlisted, trade_same}
+use Rattle.vx_feed.proofs.SameAfter.{listed_same, price_same, rate_same, trade_same}
+use Rattle.vx_book.proofs.Quiet.{rows_quoted, rows_with_unlisted}
 use Rattle.vx_book.proofs.Lawful.{all_inserted, listed_lawful, no_price-lawful, quoted_lawful, row_if, row_if-strike, row_without-lawful}
 use Rattle.vx_book.proofs.Terms.{LeavesTerm, and_here, expiry_itself, tables_changed, tables_left}
 use Rattle.vx_book.proofs.Kept.{LeavesSeries, kept_left, place_left, late_trade_leaves, listing_leaves, quote_leaves, row_leaves, series_left, trade_leaves, unlisted_left}
@@ -295,7 +296,7 @@ no_row_without s events none = sides_without (λ side. is_listed (series_at (exp
 
 quote_elsewhere : (x : Expiry) (events : List Event) (time : ℕ) (s : Symbol) (bid ask : ℕ) → is_same_expiry x (expiry_of s) ≡ false → LeavesTerm x events (event.Quote time s bid ask)
 quote_elsewhere x events time s bid ask other =
-    leaves_term events (event.Quote time s bid ask) x refl refl (λ side k. ap (λ b. cond b (Some (record { bid = bid; ask = ask })) None) (apart x side k s other))
+    leaves_term events (event.Quote time s bid ask) x refl refl (λ side k. ap (λ b. cond b (Some (record { bid = bid; ask = ask })) None) (apart_series x s side k other))
 
 -- a quote changes no row where the strike has none
 quote_leaves_rows : (x : Expiry) (events : List Event) (time : ℕ) (s : Symbol) (bid ask : ℕ) → is_strike_listed (expiry_of s) events s.strike ≡ false

@@ -1,7 +1,6 @@
--- What an event that says nothing of a matter leaves as it is, and the rows that a quote changes.
-use Rattle.std.proofs.Common.{◌≡◌, ◌∙◌, sym, ap, subst, refl, inl, inr, ℕ, Bool, true, false, cond, ◌&&◌, ◌||◌, ◌==◌, List, [], ◌∷◌, ◌++◌, map, Option, Some, None}
-use Rattle.std.specs.List.{filter, list_any}
-use Rattle.std.specs.Option.{option_or}
+-- The rows that an event leaves as they are, and those that a quote changes.
+use Rattle.std.proofs.Common.{◌≡◌, ◌∙◌, sym, ap, subst, refl, inl, inr, ℕ, Bool, true, false, cond, ◌&&◌, ◌==◌, List, [], ◌∷◌, ◌++◌, map, Option, Some, None}
+use Rattle.std.specs.List.{filter}
 use Rattle.std.proofs.lemmas.Bool.{cases_Bool, ne_eqb}
 use Rattle.vx_clock.specs.declared.terms.Expiry.{Expiry}
 use Rattle.vx_symbol.specs.declared.symbols.Side.{Side}
@@ -11,62 +10,16 @@ use Rattle.vx_symbol.specs.declared.rows.Price.{Price}
 use Rattle.vx_symbol.specs.declared.rows.StrikeRow.{StrikeRow}
 use Rattle.vx_feed.specs.declared.events.Event.{Event}
 use Rattle.vx_feed.specs.declared.events.Event.TheVariants as event
-use Rattle.vx_feed.specs.Same.{is_same_expiry, is_same_series, is_same_side}
-use Rattle.vx_feed.specs.Standing.{BidAsk, if_standing, is_opening, lists_series, opening_trade, quote_of, rate_of, standing_quote, standing_rate, trade_of}
-use Rattle.vx_feed.specs.Listed.{expiry_of, is_listed, is_strike_listed, listed_rows, listed_strike, quoted_price, row_of, series_at, standing_price, strikes_of, with_strike}
-use Rattle.vx_feed.specs.Next.{quote_after, trade_after}
-use Rattle.vx_feed.proofs.NextEvent.{next_listed, next_quote, next_rate, next_strikes, next_trade, option_or-none, or-false}
+use Rattle.vx_feed.specs.Same.{is_same_expiry, is_same_side}
+use Rattle.vx_feed.specs.Standing.{BidAsk, if_standing, quote_of}
+use Rattle.vx_feed.specs.Listed.{expiry_of, is_strike_listed, listed_rows, quoted_price, row_of, series_at, standing_price, strikes_of}
 use Rattle.vx_feed.specs.NextRows.{is_listing, price_after, row_after}
 use Rattle.vx_book.specs.Tables.{price_of, row_with, rows_with}
 use Rattle.vx_feed.proofs.NextRows.{next_rows}
 use Rattle.vx_feed.proofs.RisingStrikes.{dropped, kept}
-
--- ---- one series, one expiry
-
-as_quoted : (listed : Bool) (q : Option BidAsk) → quote_after listed q None ≡ q
-as_quoted true q = refl
-as_quoted false q = refl
-
-as_traded : (opened listed : Bool) (t : Option ℕ) → trade_after opened listed t None ≡ t
-as_traded true listed t = refl
-as_traded false true t = option_or-none t
-as_traded false false t = refl
-
-pub price_same : (s : Symbol) (events : List Event) (e : Event) → quote_of s e ≡ None → standing_price (events ++ e ∷ []) s ≡ standing_price events s
-price_same s events e none =
-    ap quoted_price (next_quote s events e ∙ ap (quote_after (is_listed s events) (standing_quote s events)) none ∙ as_quoted (is_listed s events) (standing_quote s events))
-
-pub trade_same : (s : Symbol) (events : List Event) (e : Event) → trade_of s e ≡ None → opening_trade s (events ++ e ∷ []) ≡ opening_trade s events
-trade_same s events e none =
-    next_trade s events e ∙ ap (trade_after (list_any is_opening events) (is_listed s events) (opening_trade s events)) none
-    ∙ as_traded (list_any is_opening events) (is_listed s events) (opening_trade s events)
-
--- once the opening was taken, no event changes an opening trade
-pub trade_opened : (s : Symbol) (events : List Event) (e : Event) → list_any is_opening events ≡ true → opening_trade s (events ++ e ∷ []) ≡ opening_trade s events
-trade_opened s events e opened =
-    next_trade s events e ∙ ap (λ b. trade_after b (is_listed s events) (opening_trade s events) (trade_of s e)) opened
-
-pub rate_same : (x : Expiry) (events : List Event) (e : Event) → rate_of x e ≡ None → standing_rate x (events ++ e ∷ []) ≡ standing_rate x events
-rate_same x events e none = next_rate x events e ∙ ap (λ o. option_or o (standing_rate x events)) none
-
-pub listed_same : (s : Symbol) (events : List Event) (e : Event) → lists_series s e ≡ false → is_listed s (events ++ e ∷ []) ≡ is_listed s events
-listed_same s events e none = next_listed s events e ∙ ap (λ b. is_listed s events || b) none ∙ or-false (is_listed s events)
-
-pub listed_still : (s : Symbol) (events : List Event) (e : Event) → is_listed s events ≡ true → is_listed s (events ++ e ∷ []) ≡ true
-listed_still s events e listed = next_listed s events e ∙ ap (λ b. b || lists_series s e) listed
-
-pub strikes_same : (x : Expiry) (events : List Event) (e : Event) → listed_strike x e ≡ None → strikes_of x (events ++ e ∷ []) ≡ strikes_of x events
-strikes_same x events e none = next_strikes x events e ∙ ap (λ o. with_strike o (strikes_of x events)) none
-
--- a series of another expiry is another series
-pub apart : (x : Expiry) (side : Side) (k : ℕ) (s : Symbol) → is_same_expiry x (expiry_of s) ≡ false → is_same_series (series_at x side k) s ≡ false
-apart x side k s h = ap (λ b. b && is_same_side side s.side && (k == s.strike)) h
+use Rattle.vx_feed.proofs.SameAfter.{map_same}
 
 -- ---- rows
-
-pub map_same : (f g : StrikeRow → StrikeRow) → ((r : StrikeRow) → f r ≡ g r) → (rows : List StrikeRow) → map f rows ≡ map g rows
-map_same f g same [] = refl
-map_same f g same (r ∷ rows) = ap (λ x. x ∷ map f rows) (same r) ∙ ap (λ l. g r ∷ l) (map_same f g same rows)
 
 map_itself : (f : StrikeRow → StrikeRow) → ((r : StrikeRow) → f r ≡ r) → (rows : List StrikeRow) → map f rows ≡ rows
 map_itself f same [] = refl

@@ -21,7 +21,7 @@ use Rattle.vx_feed.proofs.SameLemmas.{expiry_from_same}
 use Rattle.vx_feed.proofs.StrikeLemmas.{has_strike, has-strike_of, length-strike_more}
 use Rattle.vx_book.specs.StandsFor.{AreOrderly}
 use Rattle.vx_feed.proofs.RisingStrikes.{RisesFrom, strikes_rise}
-use Rattle.vx_book.proofs.Quiet.{rate_same, strikes_same}
+use Rattle.vx_feed.proofs.SameAfter.{rate_same, strikes_same}
 
 -- ---- rising strikes that are the same ones
 

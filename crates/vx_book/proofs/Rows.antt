@@ -1,12 +1,12 @@
 -- Rows in rising order: where a row goes, what another price changes, and which row has which number.
-use Rattle.std.proofs.Common.{◌≡◌, ◌≢◌, ℕ, zero, suc, ◌+◌, ◌<◌, ◌≤◌, ◌==◌, List, [], ◌∷◌, ◌++◌, map, length, get_or, set, take, drop, Option, Some, None, refl, sym, ap, subst, ◌∙◌, inl, inr, true, false, cond, arith}
+use Rattle.std.proofs.Common.{◌≡◌, ◌≢◌, ℕ, zero, suc, ◌+◌, ◌<◌, ◌≤◌, ◌==◌, List, [], ◌∷◌, ◌++◌, map, length, get_or, set, Option, Some, None, refl, sym, ap, subst, ◌∙◌, inl, inr, true, false, cond, arith}
 use Rattle.std.specs.Prelude.{nat_le, nat_lt, slice_get, option_map, option_and_then}
 use Rattle.std.specs.List.{insert}
 use Rattle.std.specs.List.Sorted.{IsPartitionedBy, IsPartitionPoint}
 use Rattle.std.proofs.lemmas.Bool.{cases_lt, eq-eqb, ne_eqb, leb-true, leb-false, le-leb}
 use Rattle.std.proofs.lemmas.Bool.Decides.{nat_tests}
 use Rattle.std.proofs.lemmas.Option.{get_or_from_slice_get, option_and_then_some, slice_get-get_or, slice_get-map, slice_get_within}
-use Rattle.std.proofs.lemmas.List.{append-nil, drop_all, length-map, take_all}
+use Rattle.std.proofs.lemmas.List.{length-map}
 use Rattle.std.proofs.lemmas.List.Edits.{length-insert}
 use Rattle.std.proofs.lemmas.List.Elements.{All-map, All-push, All-weaker}
 use Rattle.vx_symbol.specs.declared.symbols.Side.{Side}
@@ -161,12 +161,6 @@ rows_set rows places n k side price place row new rising at place_is row_is new_
     let at_place : slice_get rows place ≡ Some has.row = ap (slice_get rows) its_place ∙ has.at_place in
     let its_row : row ≡ has.row = row_is ∙ get_or_from_slice_get rows place has.row row at_place in
     ap (set rows place) new_is ∙ rows_written k side price rows place row rising (at_place ∙ ap Some (sym its_row)) (ap (λ (r : StrikeRow). r.strike) its_row ∙ has.strike)
-
--- a list written back into one of the same length
-pub written_back : (n : ℕ) (new old : List ℕ) → length old ≡ n → length new ≡ length old → take n (new ++ drop (length new) old) ≡ new
-written_back n new old fits same =
-    let none : drop (length new) old ≡ [] = drop_all (length new) old (omega arith) in
-    ap (λ l. take n (new ++ l)) none ∙ ap (take n) (append-nil new) ∙ take_all n new (omega arith)
 
 pub adds_row : (row : StrikeRow) (old new : Table) (at number : ℕ) → IsPlaceFor row.strike old.rows.items at → ArePlaces old.rows.items old.places.items
     → new.rate ≡ old.rate → new.rows.items ≡ insert old.rows.items at row → new.places.items ≡ with_place at old.places.items

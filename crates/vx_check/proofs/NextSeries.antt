@@ -1,8 +1,8 @@
 -- The rows and the single sides of an expiry after one more event.
-use Rattle.std.proofs.Common.{◌≡◌, ◌≢◌, ℕ, Bool, true, false, cond, ◌&&◌, ◌||◌, ◌==◌, List, [], ◌∷◌, ◌++◌, Option, Some, None, refl, sym, ◌∙◌, ap, subst, inl, inr}
+use Rattle.std.proofs.Common.{◌≡◌, ◌≢◌, ℕ, Bool, true, false, cond, ◌||◌, List, [], ◌∷◌, ◌++◌, Option, Some, None, refl, sym, ◌∙◌, ap, subst, inl, inr}
 use Rattle.std.specs.Prelude.{option_map}
-use Rattle.std.proofs.lemmas.Bool.{cases_eq, ne_eqb, eq-eqb}
-use Rattle.std.proofs.Math.Bool.{and-false, and-true, or-false, or-true}
+use Rattle.std.proofs.lemmas.Bool.{cases_eq}
+use Rattle.std.proofs.Math.Bool.{or-true}
 use Rattle.vx_clock.specs.declared.terms.Expiry.{Expiry}
 use Rattle.vx_symbol.specs.declared.symbols.Side.{Side}
 use Rattle.vx_symbol.specs.declared.symbols.Side.TheVariants.{Call, Put}
@@ -16,14 +16,15 @@ use Rattle.vx_feed.specs.Standing.{BidAsk, if_standing, lists_series, quote_of, 
 use Rattle.vx_feed.specs.Listed.{expiry_of, is_listed, listed_rows, no_price, quoted_price, series_at, standing_price}
 use Rattle.vx_feed.specs.Next.{quote_after}
 use Rattle.vx_feed.proofs.NextEvent.{next_listed, next_quote, unlisted_has_none}
-use Rattle.vx_feed.proofs.NextRows.{apart_series}
+use Rattle.vx_feed.proofs.NextRows.{apart_series, other_strike, own_strike}
+use Rattle.vx_feed.proofs.SameAfter.{listed_same, price_same}
 use Rattle.vx_check.specs.declared.table.Half.{Half}
 use Rattle.vx_check.specs.Rising.{Rises, item_at, IsWith}
 use Rattle.vx_check.specs.Tables.{row_strike, half_strike, price_of, row_when_listed, half_when_listed, row_with_price, half_when_quoted, ListsSeries, SetsPrice}
 use Rattle.vx_check.specs.StandsFor.{only_side, listed_half, AreListedHalves}
 use Rattle.vx_check.specs.NextRows.{both_sides, listed_row}
 use Rattle.vx_check.proofs.Rising.{same_from_items}
-use Rattle.vx_check.proofs.TableLists.{root_self, number_self}
+use Rattle.vx_check.proofs.TableLists.{expiry_self}
 use Rattle.vx_check.proofs.Strikes.{listed_rows_rise, listed_item}
 
 -- what a table keeps of the series of its expiry
@@ -74,17 +75,6 @@ half_says x events k lp lc pp pc h = four (only_side k) _ lp _ lc _ pp _ pc h.pu
 
 -- ---- one series after one more event
 
-after_none : (b : Bool) (q : Option BidAsk) → quote_after b q None ≡ q
-after_none true q = refl
-after_none false q = refl
-
-listed_as_before : (t : Symbol) (events : List Event) (e : Event) → lists_series t e ≡ false → is_listed t (events ++ e ∷ []) ≡ is_listed t events
-listed_as_before t events e h = next_listed t events e ∙ ap (λ b. is_listed t events || b) h ∙ or-false (is_listed t events)
-
-price_as_before : (t : Symbol) (events : List Event) (e : Event) → quote_of t e ≡ None → standing_price (events ++ e ∷ []) t ≡ standing_price events t
-price_as_before t events e h =
-    ap quoted_price (next_quote t events e ∙ ap (quote_after (is_listed t events) (standing_quote t events)) h ∙ after_none (is_listed t events) (standing_quote t events))
-
 price_if_unlisted : (t : Symbol) (events : List Event) → is_listed t events ≡ false → standing_price events t ≡ no_price
 price_if_unlisted t events h = ap quoted_price (unlisted_has_none t events h).0
 
@@ -95,10 +85,10 @@ IsQuietAt x k e = (side : Side) → (lists_series (series_at x side k) e ≡ fal
 says_as_before : (x : Expiry) (events : List Event) (e : Event) (k : ℕ) → IsQuietAt x k e
     → SaysLike x (events ++ e ∷ []) events k
 says_as_before x events e k quiet = record {
-  put_listed = listed_as_before (series_at x Put k) events e (quiet Put).0;
-  call_listed = listed_as_before (series_at x Call k) events e (quiet Call).0;
-  put_price = price_as_before (series_at x Put k) events e (quiet Put).1;
-  call_price = price_as_before (series_at x Call k) events e (quiet Call).1;
+  put_listed = listed_same (series_at x Put k) events e (quiet Put).0;
+  call_listed = listed_same (series_at x Call k) events e (quiet Call).0;
+  put_price = price_same (series_at x Put k) events e (quiet Put).1;
+  call_price = price_same (series_at x Call k) events e (quiet Call).1;
 }
 
 -- an event that says nothing of the expiry's series
@@ -111,14 +101,9 @@ keeps_quiet x events e rows halves quiet h =
 
 -- ---- a series of the expiry and one at the same strike
 
-own_series : (s : Symbol) (side : Side) (k : ℕ) → is_same_series (series_at (expiry_of s) side k) s ≡ (is_same_side side s.side && (k == s.strike))
-own_series s side k = let r = root_self s.root in let d = number_self s.date.0 in rw (r, d) refl
-
-pub other_strike : (s : Symbol) (side : Side) (k : ℕ) → k ≢ s.strike → is_same_series (series_at (expiry_of s) side k) s ≡ false
-other_strike s side k ne = own_series s side k ∙ ap (λ b. is_same_side side s.side && b) (ne_eqb k s.strike ne) ∙ and-false (is_same_side side s.side)
-
+-- at its own expiry and strike a series is that of its side
 pub same_strike : (s : Symbol) (side : Side) → is_same_series (series_at (expiry_of s) side s.strike) s ≡ is_same_side side s.side
-same_strike s side = own_series s side s.strike ∙ ap (λ b. is_same_side side s.side && b) (eq-eqb s.strike s.strike refl) ∙ and-true (is_same_side side s.side)
+same_strike s side = own_strike (expiry_of s) s side (expiry_self (expiry_of s))
 
 some_if : (b : Bool) (q : BidAsk) → b ≡ false → cond b (Some q) None ≡ None
 some_if true q h = absurd (cc h)
@@ -133,10 +118,10 @@ apart_quote x time s bid ask h k side = (refl, some_if (is_same_series (series_a
 
 -- nor of other strikes
 other_listing : (s : Symbol) (k : ℕ) → k ≢ s.strike → IsQuietAt (expiry_of s) k (event.Series s)
-other_listing s k ne side = (other_strike s side k ne, refl)
+other_listing s k ne side = (other_strike (expiry_of s) s side k ne, refl)
 
 other_quote : (time : ℕ) (s : Symbol) (bid ask k : ℕ) → k ≢ s.strike → IsQuietAt (expiry_of s) k (event.Quote time s bid ask)
-other_quote time s bid ask k ne side = (refl, some_if (is_same_series (series_at (expiry_of s) side k) s) (record { bid = bid; ask = ask }) (other_strike s side k ne))
+other_quote time s bid ask k ne side = (refl, some_if (is_same_series (series_at (expiry_of s) side k) s) (record { bid = bid; ask = ask }) (other_strike (expiry_of s) s side k ne))
 
 -- rows and sides that change at one strike alone, and there to what is then listed
 changes_at : (s : Symbol) (events : List Event) (e : Event) (rows new_rows : List StrikeRow) (halves new_halves : List Half) (row : Option StrikeRow) (half : Option Half)
@@ -207,9 +192,9 @@ module _ (x : Expiry) (k : ℕ) (events : List Event) where
   put_after : listed Put ≡ false → SaysOfStrike x (events ++ put_event ∷ []) k true (listed Call) no_price (price Call)
   put_after h = record {
     put_listed = listed_now Put;
-    call_listed = listed_as_before (series_at x Call k) events put_event (same_strike (series_at x Put k) Call);
-    put_price = price_as_before (series_at x Put k) events put_event refl ∙ price_if_unlisted (series_at x Put k) events h;
-    call_price = price_as_before (series_at x Call k) events put_event refl;
+    call_listed = listed_same (series_at x Call k) events put_event (same_strike (series_at x Put k) Call);
+    put_price = price_same (series_at x Put k) events put_event refl ∙ price_if_unlisted (series_at x Put k) events h;
+    call_price = price_same (series_at x Call k) events put_event refl;
   }
 
   call_before : listed Call ≡ false → SaysOfStrike x events k (listed Put) false (price Put) no_price
@@ -217,10 +202,10 @@ module _ (x : Expiry) (k : ℕ) (events : List Event) where
 
   call_after : listed Call ≡ false → SaysOfStrike x (events ++ call_event ∷ []) k (listed Put) true (price Put) no_price
   call_after h = record {
-    put_listed = listed_as_before (series_at x Put k) events call_event (same_strike (series_at x Call k) Put);
+    put_listed = listed_same (series_at x Put k) events call_event (same_strike (series_at x Call k) Put);
     call_listed = listed_now Call;
-    put_price = price_as_before (series_at x Put k) events call_event refl;
-    call_price = price_as_before (series_at x Call k) events call_event refl ∙ price_if_unlisted (series_at x Call k) events h;
+    put_price = price_same (series_at x Put k) events call_event refl;
+    call_price = price_same (series_at x Call k) events call_event refl ∙ price_if_unlisted (series_at x Call k) events h;
   }
 
   listing_row : (side : Side) → listed side ≡ false
@@ -311,18 +296,18 @@ module _ (x : Expiry) (k time bid ask : ℕ) (events : List Event) where
 
   put_quoted : SaysOfStrike x (events ++ quote_event Put ∷ []) k (is_there Put) (is_there Call) (cond (is_there Put) (price_of bid ask) (old_price Put)) (old_price Call)
   put_quoted = record {
-    put_listed = listed_as_before (series_at x Put k) events (quote_event Put) refl;
-    call_listed = listed_as_before (series_at x Call k) events (quote_event Put) refl;
+    put_listed = listed_same (series_at x Put k) events (quote_event Put) refl;
+    call_listed = listed_same (series_at x Call k) events (quote_event Put) refl;
     put_price = price_quoted Put;
-    call_price = price_as_before (series_at x Call k) events (quote_event Put)
+    call_price = price_same (series_at x Call k) events (quote_event Put)
         (some_if (is_same_series (series_at x Call k) (series_at x Put k)) (record { bid = bid; ask = ask }) (same_strike (series_at x Put k) Call));
   }
 
   call_quoted : SaysOfStrike x (events ++ quote_event Call ∷ []) k (is_there Put) (is_there Call) (old_price Put) (cond (is_there Call) (price_of bid ask) (old_price Call))
   call_quoted = record {
-    put_listed = listed_as_before (series_at x Put k) events (quote_event Call) refl;
-    call_listed = listed_as_before (series_at x Call k) events (quote_event Call) refl;
-    put_price = price_as_before (series_at x Put k) events (quote_event Call)
+    put_listed = listed_same (series_at x Put k) events (quote_event Call) refl;
+    call_listed = listed_same (series_at x Call k) events (quote_event Call) refl;
+    put_price = price_same (series_at x Put k) events (quote_event Call)
         (some_if (is_same_series (series_at x Put k) (series_at x Call k)) (record { bid = bid; ask = ask }) (same_strike (series_at x Call k) Put));
     call_price = price_quoted Call;
   }

@@ -15,6 +15,7 @@ use Rattle.vx_feed.specs.Listed.{declared_expiries, declared_expiry, expiry_of, 
 use Rattle.vx_feed.specs.Order.{IsLawfulNext}
 use Rattle.vx_feed.specs.Ranges.{IsPrice}
 use Rattle.vx_feed.proofs.NextEvent.{next_rate}
+use Rattle.vx_feed.proofs.SameAfter.{rate_same}
 use Rattle.vx_check.specs.declared.table.Half.{Half}
 use Rattle.vx_check.specs.declared.table.Table.{Table}
 use Rattle.vx_check.specs.Kept.{is_table_of}
@@ -37,12 +38,9 @@ pub record Says (o : Option Table) (x : Expiry) (events : List Event) : Type 0 w
   pub rate_is : rate_in o ≡ standing_rate x events
   pub keeps : Keeps x events (rows_in o) (halves_in o)
 
-rate_as_before : (x : Expiry) (events : List Event) (e : Event) → rate_of x e ≡ None → standing_rate x (events ++ e ∷ []) ≡ standing_rate x events
-rate_as_before x events e h = next_rate x events e ∙ ap (λ o. option_or o (standing_rate x events)) h
-
 says_quiet : (o : Option Table) (x : Expiry) (events : List Event) (e : Event) → rate_of x e ≡ None → ((k : ℕ) → IsQuietAt x k e) → Says o x events → Says o x (events ++ e ∷ [])
 says_quiet o x events e none quiet h = record {
-  rate_is = h.rate_is ∙ sym (rate_as_before x events e none);
+  rate_is = h.rate_is ∙ sym (rate_same x events e none);
   keeps = keeps_quiet x events e (rows_in o) (halves_in o) quiet h.keeps;
 }
 
@@ -123,7 +121,7 @@ says_listed (Some t) (Some u) s events unlisted there both h =
     let x = expiry_of s in
     let rising : AreRising t = record { rows = rows_rise x events t.rows.items t.halves.items h.keeps; halves = h.keeps.halves_are.rises } in
     record {
-      rate_is = both.rate ∙ h.rate_is ∙ sym (rate_as_before x events (event.Series s) refl);
+      rate_is = both.rate ∙ h.rate_is ∙ sym (rate_same x events (event.Series s) refl);
       keeps = keeps_listed s events t.rows.items u.rows.items t.halves.items u.halves.items unlisted h.keeps (both.series rising);
     }
 
@@ -138,7 +136,7 @@ none_quoted s bid ask = record {
 says_quoted : (o new : Option Table) (time : ℕ) (s : Symbol) (bid ask : ℕ) (events : List Event) → IsPrice bid → IsPrice ask
     → AreBoth (QuotesInTable s.side s.strike bid ask) o new → Says o (expiry_of s) events → Says new (expiry_of s) (events ++ event.Quote time s bid ask ∷ [])
 says_quoted None None time s bid ask events low high both h = record {
-  rate_is = h.rate_is ∙ sym (rate_as_before (expiry_of s) events (event.Quote time s bid ask) refl);
+  rate_is = h.rate_is ∙ sym (rate_same (expiry_of s) events (event.Quote time s bid ask) refl);
   keeps = keeps_quoted time s bid ask events [] [] [] [] h.keeps (none_quoted s bid ask);
 }
 says_quoted None (Some u) time s bid ask events low high both h = absurd both
@@ -147,7 +145,7 @@ says_quoted (Some t) (Some u) time s bid ask events low high both h =
     let x = expiry_of s in
     let rising : AreRising t = record { rows = rows_rise x events t.rows.items t.halves.items h.keeps; halves = h.keeps.halves_are.rises } in
     record {
-      rate_is = both.rate ∙ h.rate_is ∙ sym (rate_as_before x events (event.Quote time s bid ask) refl);
+      rate_is = both.rate ∙ h.rate_is ∙ sym (rate_same x events (event.Quote time s bid ask) refl);
       keeps = keeps_quoted time s bid ask events t.rows.items u.rows.items t.halves.items u.halves.items h.keeps (both.series low high rising);
     }
 
@@ -162,7 +160,7 @@ says_traded (Some t) (Some u) time s cents events both h =
     let x = expiry_of s in
     let e = event.Trade time s cents in
     record {
-      rate_is = both.rate ∙ h.rate_is ∙ sym (rate_as_before x events e refl);
+      rate_is = both.rate ∙ h.rate_is ∙ sym (rate_same x events e refl);
       keeps = keeps_quiet x events e u.rows.items u.halves.items (λ k side. (refl, refl))
           (same_keeps x events t.rows.items u.rows.items t.halves.items u.halves.items both.rows both.halves h.keeps);
     }

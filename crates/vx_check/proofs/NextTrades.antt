@@ -18,7 +18,7 @@ use Rattle.vx_feed.specs.Listed.{expiry_of, is_listed, series_at, standing_price
 use Rattle.vx_feed.specs.Next.{trade_after}
 use Rattle.vx_feed.specs.Order.{IsLawfulNext}
 use Rattle.vx_feed.specs.Ranges.{IsPrice}
-use Rattle.vx_feed.proofs.NextEvent.{next_trade, option_or-none}
+use Rattle.vx_feed.proofs.NextEvent.{next_trade}
 use Rattle.vx_check.specs.declared.table.Half.{Half}
 use Rattle.vx_check.specs.declared.table.Table.{Table}
 use Rattle.vx_check.specs.declared.trades.FirstTrades.{FirstTrades}
@@ -30,8 +30,9 @@ use Rattle.vx_check.specs.StandsFor.{AreFirstTrades, only_side, listed_half}
 use Rattle.vx_check.specs.NextRows.{both_sides, listed_row}
 use Rattle.vx_check.proofs.Rising.{with_same}
 use Rattle.vx_check.proofs.TableLists.{same_expiry}
-use Rattle.vx_feed.proofs.NextRows.{apart_series}
-use Rattle.vx_check.proofs.NextSeries.{Keeps, other_strike, row_item, rows_rise, same_strike}
+use Rattle.vx_feed.proofs.NextRows.{apart_series, other_strike}
+use Rattle.vx_feed.proofs.SameAfter.{trade_opened, trade_same}
+use Rattle.vx_check.proofs.NextSeries.{Keeps, row_item, rows_rise, same_strike}
 use Rattle.vx_check.proofs.NextTables.{AllSay, Says}
 
 -- ---- whether a series is listed
@@ -69,24 +70,6 @@ kept_listed : (x : Expiry) (events : List Event) (rows : List StrikeRow) (halves
 kept_listed x events rows halves h side k =
     ap (λ o. is_listed_in side o (item_at half_strike k halves)) (row_item x events rows halves h k)
     ∙ ap (is_listed_in side (listed_row x events k)) (h.halves_are.each k) ∙ listed_at x events side k
-
--- ---- the opening trade of a series after one more event
-
-after_none : (opened listed : Bool) (first : Option ℕ) → trade_after opened listed first None ≡ first
-after_none true listed first = refl
-after_none false true first = option_or-none first
-after_none false false first = refl
-
-quiet_trade : (s : Symbol) (events : List Event) (e : Event) → trade_of s e ≡ None
-    → opening_trade s (events ++ e ∷ []) ≡ opening_trade s events
-quiet_trade s events e none =
-    next_trade s events e ∙ ap (trade_after (list_any is_opening events) (is_listed s events) (opening_trade s events)) none
-    ∙ after_none (list_any is_opening events) (is_listed s events) (opening_trade s events)
-
-late_trade : (s : Symbol) (events : List Event) (e : Event) → list_any is_opening events ≡ true
-    → opening_trade s (events ++ e ∷ []) ≡ opening_trade s events
-late_trade s events e opened = next_trade s events e ∙ ap (λ b. trade_after b (is_listed s events) (opening_trade s events)
-    (trade_of s e)) opened
 
 -- ---- trades that stay
 
@@ -162,14 +145,14 @@ module _ (x : Expiry) (own : Side) (k time cents : ℕ) (events : List Event) wh
   other_trade : (side : Side) → is_same_side side own ≡ false → opening_trade (series_at x side k)
       (events ++ trade_event ∷ []) ≡ opening_trade (series_at x side k) events
   other_trade side apart =
-      quiet_trade (series_at x side k) events trade_event (unsaid_if (is_same_series (series_at x side k) traded) cents
+      trade_same (series_at x side k) events trade_event (unsaid_if (is_same_series (series_at x side k) traded) cents
       (same_strike traded side ∙ apart))
 
   far_trade : (side : Side) (j : ℕ) → j ≢ k → opening_trade (series_at x side j) (events ++ trade_event ∷ []) ≡ opening_trade
       (series_at x side j) events
   far_trade side j past =
-      quiet_trade (series_at x side j) events trade_event (unsaid_if (is_same_series (series_at x side j) traded) cents
-      (other_strike traded side j past))
+      trade_same (series_at x side j) events trade_event (unsaid_if (is_same_series (series_at x side j) traded) cents
+      (other_strike (expiry_of traded) traded side j past))
 
 abbrev Shows : Expiry → Side → ℕ → List Event → List FirstTrades → Type 0
 Shows x side k events trades = traded_at side k trades ≡ option_map price_of_trade (opening_trade (series_at x side k) events)
@@ -292,7 +275,7 @@ all_traded old new time s cents events unopened range h say all x =
       | inr apart ↦
           subst (λ (o : Option Table). AreFirstTrades x (events ++ e ∷ []) (trades_in o)) (sym (h.others x apart))
           (still_traded x events (events ++ e ∷ []) (trades_in (find (is_table_of x) old))
-          (λ side k. quiet_trade (series_at x side k) events e (apart_trade x time s cents apart side k)) (all x))
+          (λ side k. trade_same (series_at x side k) events e (apart_trade x time s cents apart side k)) (all x))
     ]
 
 -- ---- any event
@@ -305,34 +288,34 @@ pub all_traded_after : (opened : Bool) (old new : List Table) (events : List Eve
     → TakesTables opened e old new → AllSay old events → AllTraded old events → AllTraded new (events ++ e ∷ [])
 all_traded_after opened old new events (event.Header day) is lawful h say all =
     all_still old new events (events ++ event.Header day ∷ []) (same_as_before old new h)
-    (λ s. quiet_trade s events (event.Header day) refl) all
+    (λ s. trade_same s events (event.Header day) refl) all
 all_traded_after opened old new events (event.Tick time) is lawful h say all =
     all_still old new events (events ++ event.Tick time ∷ []) (same_as_before old new h)
-    (λ s. quiet_trade s events (event.Tick time) refl) all
+    (λ s. trade_same s events (event.Tick time) refl) all
 all_traded_after opened old new events (event.Opening time) is lawful h say all =
     all_still old new events (events ++ event.Opening time ∷ []) (same_as_before old new h)
-    (λ s. quiet_trade s events (event.Opening time) refl) all
+    (λ s. trade_same s events (event.Opening time) refl) all
 all_traded_after opened old new events (event.End count) is lawful h say all =
     all_still old new events (events ++ event.End count ∷ []) (same_as_before old new h)
-    (λ s. quiet_trade s events (event.End count) refl) all
+    (λ s. trade_same s events (event.End count) refl) all
 all_traded_after opened old new events (event.Expiry y) is lawful h say all =
     all_still old new events (events ++ event.Expiry y ∷ [])
     (λ x. ap (λ (l : List Table). trades_in (find (is_table_of x) l)) h.added ∙ added_as_before y h.table h.is_empty old x)
-    (λ s. quiet_trade s events (event.Expiry y) refl) all
+    (λ s. trade_same s events (event.Expiry y) refl) all
 all_traded_after opened old new events (event.Rate y rate) is lawful h say all =
     all_still old new events (events ++ event.Rate y rate ∷ []) (changed_as_before y (SetsRate rate) (λ t u r. r.trades) old new h)
-    (λ s. quiet_trade s events (event.Rate y rate) refl) all
+    (λ s. trade_same s events (event.Rate y rate) refl) all
 all_traded_after opened old new events (event.Series t) is lawful h say all =
     all_still old new events (events ++ event.Series t ∷ [])
     (changed_as_before (expiry_of t) (ListsInTable t.side t.strike) (λ a b r. r.trades) old new h)
-    (λ s. quiet_trade s events (event.Series t) refl) all
+    (λ s. trade_same s events (event.Series t) refl) all
 all_traded_after opened old new events (event.Quote time t bid ask) is lawful h say all =
     all_still old new events (events ++ event.Quote time t bid ask ∷ [])
     (changed_as_before (expiry_of t) (QuotesInTable t.side t.strike bid ask) (λ a b r. r.trades) old new h)
-    (λ s. quiet_trade s events (event.Quote time t bid ask) refl) all
+    (λ s. trade_same s events (event.Quote time t bid ask) refl) all
 all_traded_after true old new events (event.Trade time t cents) is lawful h say all =
     all_still old new events (events ++ event.Trade time t cents ∷ []) (same_as_before old new h)
-    (λ s. late_trade s events (event.Trade time t cents) is) all
+    (λ s. trade_opened s events (event.Trade time t cents) is) all
 all_traded_after false old new events (event.Trade time t cents) is lawful h say all =
     all_traded old new time t cents events is lawful.in_range.3 h say all
 

@@ -25,11 +25,11 @@ same_root Spx Spxw h = absurd cc
 same_root Spxw Spx h = absurd cc
 same_root Spxw Spxw h = refl
 
-pub root_self : (a : Root) → is_same_root a a ≡ true
+root_self : (a : Root) → is_same_root a a ≡ true
 root_self Spx = refl
 root_self Spxw = refl
 
-pub number_self : (z : ℤ) → int_eq z z ≡ true
+number_self : (z : ℤ) → int_eq z z ≡ true
 number_self z = (Decides-int_eq z z).1 refl
 
 abbrev expiry_with : Root → ℤ → Expiry

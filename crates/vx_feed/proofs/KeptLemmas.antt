@@ -103,7 +103,7 @@ abbrev pub no_declared : Declared
 no_declared = record { expiry = record { root = Spx; date = record { 0 = pos 0 } }; strikes = 0 }
 
 -- a list written back into one of the same length
-pub written_back : (n : ℕ) (new old : List Declared) → length old ≡ n → length new ≡ length old → take n (new ++ drop (length new) old) ≡ new
+pub written_back : {X : Type 0} (n : ℕ) (new old : List X) → length old ≡ n → length new ≡ length old → take n (new ++ drop (length new) old) ≡ new
 written_back n new old fits same =
     let none : drop (length new) old ≡ [] = drop_all (length new) old (omega arith) in
     ap (λ l. take n (new ++ l)) none ∙ ap (take n) (append-nil new) ∙ take_all n new (omega arith)

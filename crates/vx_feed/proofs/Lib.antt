@@ -3,6 +3,7 @@ pub mod NextEvent
 pub mod OpeningLemmas
 pub mod ReadBack
 pub mod SameLemmas
+pub mod SameAfter
 pub mod StrikeLemmas
 pub mod KeptLemmas
 pub mod OrderLemmas

@@ -19,6 +19,7 @@ use Rattle.vx_feed.specs.Listed.{expiry_of, insert_strike, is_listed, is_strike_
 use Rattle.vx_feed.specs.Next.{quote_after}
 use Rattle.vx_feed.proofs.NextEvent.{insert_strike-above, insert_strike-at, insert_strike-below, next_listed, next_quote, next_strikes, or-false, three_ways, unlisted_has_none}
 use Rattle.vx_feed.proofs.RisingStrikes.{RisesFrom, dropped, filter_rises, kept, rises_weaker, strikes_rise}
+use Rattle.vx_feed.proofs.SameAfter.{map_same, price_same}
 use Rattle.vx_feed.proofs.SameLemmas.{expiry_from_same}
 use Rattle.vx_feed.specs.NextRows.{NextRows, NextRowsListed, NextStrikesListed, completed_strike, completes_strike, insert_row, is_listing, price_after, row_after, row_when_listed, row_without}
 
@@ -118,11 +119,13 @@ strikes_quiet x events e none quiet =
 pub apart_series : (x : Expiry) (s : Symbol) (side : Side) (k : ℕ) → is_same_expiry x (expiry_of s) ≡ false → is_same_series (series_at x side k) s ≡ false
 apart_series x s side k h = ap (λ b. b && is_same_side side s.side && (k == s.strike)) h
 
-other_strike : (x : Expiry) (s : Symbol) (side : Side) (k : ℕ) → k ≢ s.strike → is_same_series (series_at x side k) s ≡ false
+-- and so is one at another strike
+pub other_strike : (x : Expiry) (s : Symbol) (side : Side) (k : ℕ) → k ≢ s.strike → is_same_series (series_at x side k) s ≡ false
 other_strike x s side k ne =
     ap (λ b. is_same_expiry x (expiry_of s) && is_same_side side s.side && b) (ne_eqb k s.strike ne) ∙ and-false (is_same_expiry x (expiry_of s) && is_same_side side s.side)
 
-own_strike : (x : Expiry) (s : Symbol) (side : Side) → is_same_expiry x (expiry_of s) ≡ true → is_same_series (series_at x side s.strike) s ≡ is_same_side side s.side
+-- at its own strike and expiry it is the series of its side
+pub own_strike : (x : Expiry) (s : Symbol) (side : Side) → is_same_expiry x (expiry_of s) ≡ true → is_same_series (series_at x side s.strike) s ≡ is_same_side side s.side
 own_strike x s side h =
     ap (λ b. b && is_same_side side s.side && (s.strike == s.strike)) h
     ∙ ap (λ b. is_same_side side s.side && b) (eq-eqb s.strike s.strike refl) ∙ and-true (is_same_side side s.side)
@@ -257,21 +260,10 @@ next_rows x events e none =
 
 -- ---- rows after a series is listed
 
-as_before : (listed : Bool) (q : Option BidAsk) → quote_after listed q None ≡ q
-as_before true q = refl
-as_before false q = refl
-
-price_same : (events : List Event) (s t : Symbol) → standing_price (events ++ event.Series s ∷ []) t ≡ standing_price events t
-price_same events s t = ap quoted_price (next_quote t events (event.Series s) ∙ as_before (is_listed t events) (standing_quote t events))
-
 row_same : (x : Expiry) (events : List Event) (s : Symbol) (k : ℕ) → row_of (standing_price (events ++ event.Series s ∷ [])) x k ≡ row_of (standing_price events) x k
 row_same x events s k =
-    ap (λ p. row_at k p (standing_price (events ++ event.Series s ∷ []) (series_at x Call k))) (price_same events s (series_at x Put k))
-    ∙ ap (λ p. row_at k (standing_price events (series_at x Put k)) p) (price_same events s (series_at x Call k))
-
-map_same : (f g : ℕ → StrikeRow) → ((k : ℕ) → f k ≡ g k) → (ks : List ℕ) → map f ks ≡ map g ks
-map_same f g same [] = refl
-map_same f g same (k ∷ ks) = ap (λ r. r ∷ map f ks) (same k) ∙ ap (λ l. g k ∷ l) (map_same f g same ks)
+    ap (λ p. row_at k p (standing_price (events ++ event.Series s ∷ []) (series_at x Call k))) (price_same (series_at x Put k) events (event.Series s) refl)
+    ∙ ap (λ p. row_at k (standing_price events (series_at x Put k)) p) (price_same (series_at x Call k) events (event.Series s) refl)
 
 insert_row-below : (row r : StrikeRow) (rows : List StrikeRow) → row.strike < r.strike → insert_row row (r ∷ rows) ≡ row ∷ r ∷ rows
 insert_row-below row r rows h = let t : nat_lt row.strike r.strike ≡ true = grind (arith, nat_tests) in rw t refl

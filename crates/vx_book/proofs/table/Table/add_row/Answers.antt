@@ -2,7 +2,8 @@ use Rattle.std.proofs.Common.{◌≡◌, ◌∙◌, ◌++◌, ◌∷◌, [], map
 use Rattle.std.specs.List.{insert}
 use Rattle.vx_symbol.specs.declared.rows.StrikeRow.{StrikeRow}
 use Rattle.vx_book.specs.Tables.{IsPlaceFor, moved_up}
-use Rattle.vx_book.proofs.Rows.{adds_row, with_place, written_back}
+use Rattle.vx_feed.proofs.KeptLemmas.{written_back}
+use Rattle.vx_book.proofs.Rows.{adds_row, with_place}
 use Rattle.vx_book.proofs.table.Table.add_row.Goals as goal
 
 pub returns-clause-added : goal.returns-clause-added
