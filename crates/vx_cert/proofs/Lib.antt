@@ -4,3 +4,8 @@ pub mod Reading
 pub mod Faults
 pub mod WrittenTexts
 pub mod WrittenData
+pub mod OneReading
+pub mod ReadRanges
+pub mod WrittenBack
+pub mod WrittenLine
+pub mod WrittenLength

@@ -71,3 +71,13 @@ valued c bytes d e t h =
 pub on_ok : {T E X : Type 0} (r : Result T E) → X → OnOk r X
 on_ok (Ok t) x = x
 on_ok (Err e) x = tt
+
+-- what follows from a clause where it is answered
+pub ok_then : {T E X Y : Type 0} (r : Result T E) → (X → Y) → OnOk r X → OnOk r Y
+ok_then (Ok t) f x = f x
+ok_then (Err e) f x = tt
+
+-- and from two
+pub both_then : {T E X Y Z : Type 0} (r : Result T E) → (X → Y → Z) → OnOk r X → OnOk r Y → OnOk r Z
+both_then (Ok t) f x y = f x y
+both_then (Err e) f x y = tt

@@ -1,6 +1,6 @@
 -- What a value of JSON says where a certificate has a field. A reading gives what is said there, or
 -- None where the value has another form or lies out of range. This project's own format.
-use Rattle.std.specs.Prelude.{ℕ, ◌+◌, ◌-◌, ◌*◌, ◌^◌, ℤ, pos, negsuc, neg_ℤ, int_lt, ◌&&◌, ◌==◌, Bool, nat_lt, nat_le, int_le, List, [], ◌∷◌, length, slice_index, codes, if◌then◌else◌, Option, Some, None, option_map, option_and_then, unwrap_or, true}
+use Rattle.std.specs.Prelude.{ℕ, ◌-◌, ◌^◌, ℤ, pos, negsuc, neg_ℤ, int_lt, ◌&&◌, ◌==◌, Bool, nat_lt, nat_le, int_le, List, [], ◌∷◌, length, codes, if◌then◌else◌, Option, Some, None, option_map, option_and_then, unwrap_or, true}
 use Rattle.std.specs.Result.{result_ok}
 use Rattle.std.specs.List.{list_all, list_any}
 use Rattle.std.specs.Str.{bytes_eq}

@@ -136,6 +136,10 @@ data_by_kind c (Soq term figure) = one_term_data (codes "soq") c term figure
 abbrev pub certificate_data : Certificate → Data
 certificate_data c = data_by_kind c c.body
 
--- the line that a certificate is written as, with its LF (10)
+-- the line that a certificate is written as
+abbrev pub certificate_line : Certificate → List ℕ
+certificate_line c = compact_text (certificate_data c)
+
+-- the same with its LF (10)
 abbrev pub certificate_text : Certificate → List ℕ
-certificate_text c = compact_text (certificate_data c) ++ 10 ∷ []
+certificate_text c = certificate_line c ++ 10 ∷ []

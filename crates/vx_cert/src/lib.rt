@@ -6,6 +6,7 @@ pub mod certificate;
 pub mod fault;
 mod field;
 mod form;
+pub mod laws;
 pub mod limits;
 mod read;
 pub mod rows;

@@ -27,3 +27,7 @@ pub const END_BITS: u32 = 126;
 
 /// An end of an index is below two to this power in absolute value.
 pub const INDEX_END_BITS: u32 = 63;
+
+/// The length in bytes of the longest line that is written, without its LF: of kind `index`, with two
+/// strips of `ROWS_MAX` rows and each number as long as its range lets it be.
+pub const WRITTEN_LEN_MAX: usize = 326_703;

@@ -1,7 +1,8 @@
 //! Reading a certificate from a line of JSON.
 
-ghost use Rattle.std.specs.Prelude.{◌≡◌, ◌≢◌, ◌<◌, Err};
+ghost use Rattle.std.specs.Prelude.{◌≡◌, ◌≢◌, ◌<◌, Err, IfOk};
 ghost use Rattle.serde_json.specs.View.{view};
+ghost use Rattle.vx_cert.specs.Ranges.{IsCertificateInRange};
 ghost use Rattle.vx_cert.specs.Reading.{level_body, term_fields, term_at, figure_from, one_term, index_body, body_of, certificate_of, ReadsAs};
 
 use crate::certificate::{CertBody, CertFigure, CertTerm, Certificate};
@@ -29,9 +30,11 @@ const TERM_NAMES: [&str; 13] = [
 /// Reads a line of a certificate file, without its LF.
 ///
 /// The line is one object of JSON. Answers `Syntax` where `serde_json` refuses the line, and else
-/// `Field` with the number of the first field that is missing, of another form or out of range.
+/// `Field` with the number of the first field that is missing, of another form or out of range. So
+/// each field of a certificate that is read is in its range, and [`crate::write_cert`] can write it.
 pub fn read_cert(alloc: Global, line: &[u8]) -> Result<Certificate, CertFault>
-    ensures { ReadsAs line.now result }
+    ensures reads { ReadsAs line.now result }
+    ensures in_range { IfOk result IsCertificateInRange }
 {
     match Value::from_slice(alloc, line) {
         Ok(value) => certificate(alloc, &value),

@@ -1,6 +1,6 @@
 //! The values of JSON that a certificate's fields are written as.
 
-ghost use Rattle.std.specs.Prelude.{◌≡◌, ◌≤◌, [], ◌∷◌, ◌++◌, IfOk, IsUtf8, map, OnOk};
+ghost use Rattle.std.specs.Prelude.{◌≡◌, ◌≤◌, [], ◌∷◌, ◌++◌, IfOk, IsUtf8, map, OnOk, option_and_then, Some};
 ghost use Rattle.serde_json.specs.Data.{string, put as with_member};
 ghost use Rattle.serde_json.specs.View.{view, members_view};
 ghost use Rattle.vx_clock.specs.Clock.{clock_text};
@@ -8,7 +8,8 @@ ghost use Rattle.vx_clock.specs.Day.{IsDayInRange};
 ghost use Rattle.vx_clock.specs.DayText.{day_text};
 ghost use Rattle.vx_clock.specs.RootText.{bare_root_text};
 ghost use Rattle.vx_clock.specs.declared.limits.TheConstants.{MINUTE_MAX};
-ghost use Rattle.vx_cert.specs.Written.{ends_data, pair_data, row_data, rows_data, taylor_data, taylor_pair_data, two_wide, wide_number};
+ghost use Rattle.vx_cert.specs.Form.{all_read, list_of, pair_of, row_of, taylor_named, taylor_of, word_of};
+ghost use Rattle.vx_cert.specs.Written.{ends_data, pair_data, row_data, rows_data, taylor_data, taylor_pair_data, two_wide, whole_number, wide_number};
 
 use crate::certificate::{Ends, Pair};
 use crate::form::TaylorTerms;
@@ -99,9 +100,18 @@ pub fn ends(alloc: Global, ends: Ends) -> Result<Value, NoMemory>
     two_wide(alloc, ends.lo, ends.hi)
 }
 
+/// A whole number of 32 bits.
+pub fn word(number: u32) -> Value
+    ensures value { view result ≡ whole_number number }
+    ensures read_back { word_of (whole_number number) ≡ Some number }
+{
+    Value::from(number)
+}
+
 /// A strike and a difference of half prices.
 pub fn pair(alloc: Global, pair: Pair) -> Result<Value, NoMemory>
-    ensures { IfOk result (λ v. view v ≡ pair_data pair) }
+    ensures value { IfOk result (λ v. view v ≡ pair_data pair) }
+    ensures read_back { OnOk result (pair_of (pair_data pair) ≡ Some pair) }
 {
     let mut values = Vec::new(alloc);
     push(&mut values, Value::from(pair.strike))?;
@@ -111,7 +121,9 @@ pub fn pair(alloc: Global, pair: Pair) -> Result<Value, NoMemory>
 
 /// The Taylor terms of one side.
 fn taylor_terms(alloc: Global, terms: &TaylorTerms) -> Result<Value, NoMemory>
-    ensures { IfOk result (λ v. view v ≡ taylor_data terms.now) }
+    ensures value { IfOk result (λ v. view v ≡ taylor_data terms.now) }
+    ensures read_back { OnOk result
+        (option_and_then taylor_named (list_of (taylor_data terms.now)) ≡ Some terms.now) }
 {
     let mut values = Vec::new(alloc);
     for term in terms {
@@ -123,7 +135,8 @@ fn taylor_terms(alloc: Global, terms: &TaylorTerms) -> Result<Value, NoMemory>
 
 /// The Taylor terms of both sides.
 pub fn taylor(alloc: Global, low: &TaylorTerms, high: &TaylorTerms) -> Result<Value, NoMemory>
-    ensures { IfOk result (λ v. view v ≡ taylor_pair_data low.now high.now) }
+    ensures value { IfOk result (λ v. view v ≡ taylor_pair_data low.now high.now) }
+    ensures read_back { OnOk result (taylor_of (taylor_pair_data low.now high.now) ≡ Some (low.now, high.now)) }
 {
     let mut values = Vec::new(alloc);
     push(&mut values, taylor_terms(alloc, low)?)?;
@@ -141,7 +154,8 @@ fn push(values: &mut Vec<Value>, value: Value) -> Result<(), NoMemory>
 
 /// A row: strike, doubled width, price and two ends.
 fn row(alloc: Global, row: CertRow) -> Result<Value, NoMemory>
-    ensures { IfOk result (λ v. view v ≡ row_data row) }
+    ensures value { IfOk result (λ v. view v ≡ row_data row) }
+    ensures read_back { OnOk result (row_of (row_data row) ≡ Some row) }
 {
     let mut values = Vec::new(alloc);
     push(&mut values, Value::from(row.strike))?;
@@ -154,7 +168,8 @@ fn row(alloc: Global, row: CertRow) -> Result<Value, NoMemory>
 
 /// The rows of a strip.
 pub fn rows(alloc: Global, rows: &CertRows) -> Result<Value, NoMemory>
-    ensures { IfOk result (λ v. view v ≡ rows_data rows.now) }
+    ensures value { IfOk result (λ v. view v ≡ rows_data rows.now) }
+    ensures read_back { OnOk result (all_read row_of (map row_data rows.now) ≡ Some rows.now) }
 {
     let mut values = Vec::new(alloc);
     for item in rows.items() {

@@ -1,14 +1,18 @@
 //! Writing a certificate as a line of JSON.
 
-ghost use Rattle.std.specs.Prelude.{◌≡◌, ◌≤◌, [], ◌∷◌, ◌++◌, false, IfOk, OnErr, OnOk, string_bytes};
+ghost use Rattle.std.specs.Prelude.{◌≡◌, ◌≤◌, [], ◌∷◌, ◌++◌, false, IfOk, length, Ok, OnErr, OnOk, string_bytes};
+ghost use Rattle.std.specs.List.{All};
 ghost use Rattle.serde_json.specs.Data.{depth};
 ghost use Rattle.serde_json.specs.Read.{max_depth};
 ghost use Rattle.serde_json.specs.View.{view};
 ghost use Rattle.serde_json.specs.Written.{compact_text, has_float};
 ghost use Rattle.vx_clock.specs.declared.limits.TheConstants.{MINUTE_MAX};
+ghost use Rattle.vx_cert.specs.declared.certificate.CertBody.TheVariants.{K0};
+ghost use Rattle.vx_cert.specs.declared.limits.TheConstants.{WRITTEN_LEN_MAX};
 ghost use Rattle.vx_cert.specs.Ranges.{IsCertificateInRange, IsExpiryInRange, IsTermInRange};
-ghost use Rattle.vx_cert.specs.Reading.{IsValueOf};
-ghost use Rattle.vx_cert.specs.Written.{certificate_data, certificate_text, data_by_kind, level_data, one_term_data, index_data, index_of_data, term_data};
+ghost use Rattle.vx_cert.specs.ReadBack.{IsReadBack, IsTermReadBack};
+ghost use Rattle.vx_cert.specs.Reading.{IsValueOf, level_body, ReadsAs};
+ghost use Rattle.vx_cert.specs.Written.{certificate_data, certificate_line, certificate_text, data_by_kind, level_data, one_term_data, index_data, index_of_data, term_data};
 
 use crate::certificate::{CertBody, CertFigure, CertTerm, Certificate, Pair};
 use crate::value;
@@ -19,7 +23,9 @@ use vx_clock::Expiry;
 use vx_num::NoMemory;
 
 /// Appends the line of a certificate: one object of JSON with no space and its keys in byte order,
-/// and LF. Without its LF the line is JSON, and is read as the value that was written.
+/// and LF. Without its LF the line is JSON, is read as the value that was written, and by
+/// [`crate::read_cert`] as the very certificate; it has no byte below the space, so that LF stands at
+/// its end alone, and at most [`crate::limits::WRITTEN_LEN_MAX`] bytes.
 ///
 /// # Errors
 ///
@@ -28,7 +34,10 @@ pub fn write_cert(alloc: Global, c: &Certificate, out: &mut Vec<u8>) -> Result<(
     requires { IsCertificateInRange c.now }
     ensures written { OnOk result (out.new.items ≡ out.old.items ++ certificate_text c.now) }
     ensures refused { OnErr result (out.new.items ≡ out.old.items) }
-    ensures value { OnOk result (IsValueOf (compact_text (certificate_data c.now)) (certificate_data c.now)) }
+    ensures value { OnOk result (IsValueOf (certificate_line c.now) (certificate_data c.now)) }
+    ensures read_back { OnOk result (ReadsAs (certificate_line c.now) (Ok c.now)) }
+    ensures one_line { OnOk result (All (λ byte. 32 ≤ byte) (certificate_line c.now)) }
+    ensures short { OnOk result (length (certificate_line c.now) ≤ WRITTEN_LEN_MAX) }
 {
     let line = line_of(alloc, c)?;
     out.extend_from_slice(line.as_bytes())?;
@@ -39,7 +48,8 @@ pub fn write_cert(alloc: Global, c: &Certificate, out: &mut Vec<u8>) -> Result<(
 fn line_of(alloc: Global, c: &Certificate) -> Result<String, NoMemory>
     requires { IsCertificateInRange c.now }
     ensures line { IfOk result (λ line. string_bytes line ≡ certificate_text c.now) }
-    ensures value { OnOk result (IsValueOf (compact_text (certificate_data c.now)) (certificate_data c.now)) }
+    ensures value { OnOk result (IsValueOf (certificate_line c.now) (certificate_data c.now)) }
+    ensures read_back { OnOk result (IsReadBack c.now) }
 {
     let value = certificate(alloc, c)?;
     let text = text_of(alloc, &value)?;
@@ -68,7 +78,8 @@ fn ended(text: String) -> Result<String, NoMemory>
 
 fn certificate(alloc: Global, c: &Certificate) -> Result<Value, NoMemory>
     requires { IsCertificateInRange c.now }
-    ensures { IfOk result (λ v. view v ≡ certificate_data c.now) }
+    ensures value { IfOk result (λ v. view v ≡ certificate_data c.now) }
+    ensures read_back { OnOk result (IsReadBack c.now) }
 {
     match &c.body {
         CertBody::K0 { expiry, pair, k0 } => level(alloc, c, *expiry, *pair, *k0),
@@ -92,7 +103,8 @@ fn level(
 ) -> Result<Value, NoMemory>
     requires time { c.now.time ≤ MINUTE_MAX }
     requires expiry { IsExpiryInRange expiry }
-    ensures { IfOk result (λ v. view v ≡ level_data c.now expiry pair k0) }
+    ensures value { IfOk result (λ v. view v ≡ level_data c.now expiry pair k0) }
+    ensures read_back { OnOk result (level_body (level_data c.now expiry pair k0) ≡ Ok (K0 expiry pair k0)) }
 {
     let mut fields = Map::new(alloc);
     field(alloc, &mut fields, "v", Value::from(c.v))?;
@@ -101,7 +113,7 @@ fn level(
     field(alloc, &mut fields, "pair", value::pair(alloc, pair)?)?;
     field(alloc, &mut fields, "line", Value::from(c.line))?;
     field(alloc, &mut fields, "kind", value::name(alloc, "k0")?)?;
-    field(alloc, &mut fields, "k0", Value::from(k0))?;
+    field(alloc, &mut fields, "k0", value::word(k0))?;
     field(alloc, &mut fields, "date", value::date(alloc, expiry.date)?)?;
     Ok(Value::Object(fields))
 }
@@ -115,7 +127,8 @@ fn one_term(
 ) -> Result<Value, NoMemory>
     requires time { c.now.time ≤ MINUTE_MAX }
     requires term { IsTermInRange term.now }
-    ensures { IfOk result (λ v. view v ≡ one_term_data kind.now c.now term.now figure.now) }
+    ensures value { IfOk result (λ v. view v ≡ one_term_data kind.now c.now term.now figure.now) }
+    ensures read_back { OnOk result (IsTermReadBack term.now) }
 {
     let mut fields = Map::new(alloc);
     field(alloc, &mut fields, "x", value::ends(alloc, figure.x)?)?;
@@ -145,7 +158,9 @@ fn index(
     requires time { c.now.time ≤ MINUTE_MAX }
     requires near { IsTermInRange near.now }
     requires next { IsTermInRange next.now }
-    ensures { IfOk result (λ v. view v ≡ index_data c.now days near.now next.now figure.now) }
+    ensures value { IfOk result (λ v. view v ≡ index_data c.now days near.now next.now figure.now) }
+    ensures near { OnOk result (IsTermReadBack near.now) }
+    ensures next { OnOk result (IsTermReadBack next.now) }
 {
     let near = term_value(alloc, near)?;
     let next = term_value(alloc, next)?;
@@ -185,7 +200,8 @@ fn index_of_values(
 
 fn term_value(alloc: Global, term: &CertTerm) -> Result<Value, NoMemory>
     requires { IsTermInRange term.now }
-    ensures { IfOk result (λ v. view v ≡ term_data term.now) }
+    ensures value { IfOk result (λ v. view v ≡ term_data term.now) }
+    ensures read_back { OnOk result (IsTermReadBack term.now) }
 {
     let mut fields = Map::new(alloc);
     field(alloc, &mut fields, "w", value::ends(alloc, term.w)?)?;
@@ -200,7 +216,7 @@ fn term_value(alloc: Global, term: &CertTerm) -> Result<Value, NoMemory>
     field(alloc, &mut fields, "rate", Value::from(term.rate))?;
     field(alloc, &mut fields, "pair", value::pair(alloc, term.pair)?)?;
     field(alloc, &mut fields, "minutes", Value::from(term.minutes))?;
-    field(alloc, &mut fields, "k0", Value::from(term.k0))?;
+    field(alloc, &mut fields, "k0", value::word(term.k0))?;
     field(alloc, &mut fields, "g", value::ends(alloc, term.g)?)?;
     field(alloc, &mut fields, "f", value::ends(alloc, term.f)?)?;
     field(
