@@ -1,5 +1,6 @@
 -- Lemmas on the events of a sample feed.
 pub mod FeedLemmas
+mod LineLemmas
 mod WrittenEvents
 mod SampleEvents
 mod SampleFeeds

@@ -12,12 +12,16 @@ use crate::limits::{
     CENTRE_MAX, FIRST_MINUTE, STANDARD_DAY, STANDARD_RATE, STATES, STRIKES, TERM_LINES, TICK_LINES,
     TICKS_MAX, TRADE_DAY, WEEKLY_DAY, WEEKLY_RATE,
 };
-use crate::quotes::{draw_centre, draw_quote, series_at};
+use crate::line::{LINE_ROOM, put_quote};
+use crate::quotes::{draw_centre, draw_prices, series_at};
 use std::alloc::Global;
 use vx_clock::{DayNo, Expiry, Root};
 use vx_feed::{Event, write_event};
 use vx_num::NoMemory;
-use vx_symbol::Side;
+use vx_symbol::{Side, write_symbol};
+
+/// The place of the side in a symbol.
+const SIDE_PLACE: usize = 12;
 
 fn standard_term() -> Expiry
     ensures term { result ≡ spec.standard_term }
@@ -90,7 +94,6 @@ fn put_series(alloc: Global, out: &mut Vec<u8>, expiry: Expiry) -> Result<(), No
 // The quotes of the call and the put at a strike.
 #[tactic(auto, unfolding(crate::specs::Drawing::state_after))]
 fn put_strike_quotes(
-    alloc: Global,
     out: &mut Vec<u8>,
     time: u16,
     centre: u32,
@@ -98,7 +101,6 @@ fn put_strike_quotes(
     place: u32,
     state: &mut u32,
 ) -> Result<(), NoMemory>
-    requires time { IsMinute time }
     requires centre { centre ≤ CENTRE_MAX }
     requires place { place < STRIKES }
     requires day { IsDayInRange expiry.date }
@@ -109,23 +111,24 @@ fn put_strike_quotes(
     ensures states { state.new < STATES }
 {
     let call = series_at(expiry, Side::Call, place);
-    let call_quote = draw_quote(time, centre, call, state);
+    let call_prices = draw_prices(centre, call, state);
     let put = series_at(expiry, Side::Put, place);
-    let put_quote = draw_quote(time, centre, put, state);
-    write_event(alloc, &call_quote, out)?;
-    write_event(alloc, &put_quote, out)
+    let put_prices = draw_prices(centre, put, state);
+    // The put's symbol is the call's but for the side.
+    let mut symbol = write_symbol(&call);
+    put_quote(out, time, &symbol, call_prices)?;
+    symbol[SIDE_PLACE] = b'P';
+    put_quote(out, time, &symbol, put_prices)
 }
 
 // The quotes of all series of a term.
 fn put_expiry_quotes(
-    alloc: Global,
     out: &mut Vec<u8>,
     time: u16,
     centre: u32,
     expiry: Expiry,
     state: &mut u32,
 ) -> Result<(), NoMemory>
-    requires time { IsMinute time }
     requires centre { centre ≤ CENTRE_MAX }
     requires day { IsDayInRange expiry.date }
     requires states { state.old < STATES }
@@ -135,7 +138,7 @@ fn put_expiry_quotes(
     ensures states { OnOk result (state.new < STATES) }
 {
     for place in 0..STRIKES {
-        put_strike_quotes(alloc, out, time, centre, expiry, place, state)?;
+        put_strike_quotes(out, time, centre, expiry, place, state)?;
     }
     Ok(())
 }
@@ -150,8 +153,8 @@ fn put_tick(alloc: Global, out: &mut Vec<u8>, time: u16, state: &mut u32) -> Res
     ensures states { OnOk result (state.new < STATES) }
 {
     let centre = draw_centre(state);
-    put_expiry_quotes(alloc, out, time, centre, standard_term(), state)?;
-    put_expiry_quotes(alloc, out, time, centre, weekly_term(), state)?;
+    put_expiry_quotes(out, time, centre, standard_term(), state)?;
+    put_expiry_quotes(out, time, centre, weekly_term(), state)?;
     write_event(alloc, &Event::Tick { time }, out)
 }
 
@@ -181,7 +184,9 @@ pub fn make_feed(alloc: Global, number: u32, ticks: u32) -> Result<Vec<u8>, NoMe
     requires most { ticks ≤ TICKS_MAX }
     ensures { IfOk result (λ feed. feed.items ≡ spec.make_text number ticks) }
 {
-    let mut out = Vec::new(alloc);
+    // No line is longer than that of a quote, so the room is taken once.
+    let lines = 2 + TERM_LINES + TICK_LINES * ticks;
+    let mut out = Vec::with_capacity(alloc, LINE_ROOM * lines as usize)?;
     put_terms(alloc, &mut out)?;
     put_series(alloc, &mut out, standard_term())?;
     put_series(alloc, &mut out, weekly_term())?;

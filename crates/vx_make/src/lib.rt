@@ -6,6 +6,7 @@ mod drawing;
 mod feed;
 pub mod laws;
 pub mod limits;
+mod line;
 mod quotes;
 
 pub use drawing::draw;

@@ -1,9 +1,9 @@
 //! The quotes of one series, and of the call and the put at one strike.
 
-ghost use Rattle.std.specs.Prelude.{◌≡◌, ◌+◌, ◌<◌, ◌≤◌};
+ghost use Rattle.std.specs.Prelude.{◌≡◌, ℕ, ◌+◌, ◌<◌, ◌≤◌};
 ghost use Rattle.vx_clock.specs.Day.{IsDayInRange};
 ghost use Rattle.vx_symbol.specs.Symbol.{IsSymbolInRange};
-ghost use Rattle.vx_feed.specs.Ranges.{IsInRange, IsMinute};
+ghost use Rattle.vx_feed.specs.declared.events.Event.TheVariants as event;
 ghost use Rattle.vx_make.specs.declared.limits.TheConstants.{STRIKES};
 ghost use Rattle.vx_make.specs.Drawing.{next_state};
 ghost use Rattle.vx_make.specs.Quotes as spec;
@@ -14,8 +14,15 @@ use crate::limits::{
     STRIKE_FIRST, STRIKE_LAST, STRIKE_STEP, TIME_VALUE_LOSS, TIME_VALUE_MAX,
 };
 use vx_clock::Expiry;
-use vx_feed::Event;
+use vx_symbol::limits::PRICE_MAX;
 use vx_symbol::{Side, Symbol};
+
+/// What is bid and asked for a series, in cents.
+#[derive(Clone, Copy, Drop)]
+pub(crate) struct Prices {
+    pub(crate) bid: u32,
+    pub(crate) ask: u32,
+}
 
 /// A series of an expiry by the place of its strike, from 0.
 pub(crate) fn series_at(expiry: Expiry, side: Side, place: u32) -> Symbol
@@ -93,24 +100,19 @@ fn draw_ask(bid: u32, state: &mut u32) -> u32
 }
 
 #[tactic(auto, unfolding(crate::specs::Quotes::drawn_quote))]
-/// The quote of a series at a minute, about a centre.
-pub(crate) fn draw_quote(time: u16, centre: u32, series: Symbol, state: &mut u32) -> Event
-    requires time { IsMinute time }
+/// The prices of a series about a centre.
+pub(crate) fn draw_prices(centre: u32, series: Symbol, state: &mut u32) -> Prices
     requires centre { centre ≤ CENTRE_MAX }
-    requires series { IsSymbolInRange series }
     requires strike { series.strike ≤ STRIKE_LAST }
     requires states { state.old < STATES }
     ensures step { state.new ≡ next_state (next_state state.old) }
     ensures states { state.new < STATES }
-    ensures value { result ≡ spec.drawn_quote time centre series state.old }
-    ensures in_range { IsInRange result }
+    ensures value { (time : ℕ) → event.Quote time series result.bid result.ask
+        ≡ spec.drawn_quote time centre series state.old }
+    ensures bid { result.bid ≤ PRICE_MAX }
+    ensures ask { result.ask ≤ PRICE_MAX }
 {
     let bid = draw_bid(centre, series, state);
     let ask = draw_ask(bid, state);
-    Event::Quote {
-        time,
-        symbol: series,
-        bid,
-        ask,
-    }
+    Prices { bid, ask }
 }
