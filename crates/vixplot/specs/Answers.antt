@@ -17,6 +17,10 @@ mark_of_answer minute _ = None
 abbrev pub mark_of : Tick → Option Mark
 mark_of tick = mark_of_answer tick.minute tick.answer
 
+-- a figure is at most the greatest, 3,200 points
+abbrev pub IsAnswerInRange : Answer → Type 0
+IsAnswerInRange answer = (minute : ℕ) → IfSome (mark_of_answer minute answer) (λ (mark : Mark). mark.cents ≤ CENTS_MAX)
+
 -- the minute is one of a day, and a figure is at most the greatest, 3,200 points
 pub record IsTickInRange (tick : Tick) : Type 0 where
   pub minute : tick.minute ≤ MINUTE_MAX

@@ -6,6 +6,8 @@ pub const DAYS_MAX: u64 = 1_000;
 pub const TICKS_MAX: usize = 100_000;
 /// The places of the ends of an index, in points.
 pub const ENDS_PLACES: usize = 6;
+/// The places of a strike, in points.
+pub const STRIKE_PLACES: usize = 3;
 /// The places of the ends of a forward, in points.
 pub const FORWARD_PLACES: usize = 12;
 
