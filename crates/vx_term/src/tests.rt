@@ -14,7 +14,7 @@ use vx_num::{NoMemory, Steps};
 use vx_sum::KeptStrip;
 use vx_symbol::{Price, StrikeRow, TermView};
 
-// The prices 10.00 and 50.00, bid and ask alike, and none.
+// The prices 10.00, 50.00 and 20.00, bid and ask alike, and none.
 const TEN: Price = Price {
     there: true,
     live: true,
@@ -27,30 +27,47 @@ const FIFTY: Price = Price {
     half: 10_000,
 };
 
+const TWENTY: Price = Price {
+    there: true,
+    live: true,
+    half: 4_000,
+};
+
 const NONE: Price = Price {
     there: false,
     live: false,
     half: 0,
 };
 
+const AT_1900: StrikeRow = StrikeRow {
+    strike: 1_900_000,
+    put: TEN,
+    call: NONE,
+};
+
+const AT_2000: StrikeRow = StrikeRow {
+    strike: 2_000_000,
+    put: FIFTY,
+    call: FIFTY,
+};
+
+const AT_2100: StrikeRow = StrikeRow {
+    strike: 2_100_000,
+    put: NONE,
+    call: TEN,
+};
+
+const DEARER_AT_2100: StrikeRow = StrikeRow {
+    strike: 2_100_000,
+    put: NONE,
+    call: TWENTY,
+};
+
 // The first sample feed's rows.
-const SAMPLE: [StrikeRow; 3] = [
-    StrikeRow {
-        strike: 1_900_000,
-        put: TEN,
-        call: NONE,
-    },
-    StrikeRow {
-        strike: 2_000_000,
-        put: FIFTY,
-        call: FIFTY,
-    },
-    StrikeRow {
-        strike: 2_100_000,
-        put: NONE,
-        call: TEN,
-    },
-];
+const SAMPLE: [StrikeRow; 3] = [AT_1900, AT_2000, AT_2100];
+
+// The same with the call of 2100 at 20.00.
+const DEARER_CALL: [StrikeRow; 3] = [AT_1900, AT_2000, DEARER_AT_2100];
 
 const OCTOBER_17: Expiry = Expiry {
     root: Root::Spx,
@@ -87,8 +104,25 @@ fn answer_with_one(alloc: Global, rows: &[StrikeRow]) -> Result<TermAnswer<62>, 
     variance_with::<62>(alloc, &term, 43_200, 0, exp)
 }
 
-// The numbers of an answer over a kept strip that had no refresh yet.
-fn kept_numbers<L: Ledger>(alloc: Global, blank: Blank) -> Result<Option<[i128; 6]>, NoMemory>
+// The numbers of an answer over a kept strip, at rate zero.
+fn kept_numbers(
+    alloc: Global,
+    rows: &[StrikeRow],
+    kept: &mut KeptStrip<62>,
+) -> Result<Option<[i128; 6]>, NoMemory>
+    requires lawful { AreLawfulRows rows.now }
+{
+    counted_numbers::<Brand>(alloc, rows, kept, Blank::new(1))
+}
+
+// The same over a ledger for the counter.
+fn counted_numbers<L: Ledger>(
+    alloc: Global,
+    rows: &[StrikeRow],
+    kept: &mut KeptStrip<62>,
+    blank: Blank,
+) -> Result<Option<[i128; 6]>, NoMemory>
+    requires lawful { AreLawfulRows rows.now }
     requires name { blank.name ≡ L.name }
     requires parts { blank.parts ≡ L.parts }
     requires shares { 0 < L.parts }
@@ -96,11 +130,10 @@ fn kept_numbers<L: Ledger>(alloc: Global, blank: Blank) -> Result<Option<[i128; 
     let term = TermView {
         expiry: OCTOBER_17,
         rate: Some(0),
-        rows: &SAMPLE,
+        rows,
     };
     let mut steps = Steps::<L>::open(blank);
-    let mut kept = KeptStrip::<62>::new(alloc)?;
-    let answer = term_variance_kept::<62, L>(alloc, &term, 43_200, &mut kept, &mut steps)?;
+    let answer = term_variance_kept::<62, L>(alloc, &term, 43_200, kept, &mut steps)?;
     Ok(numbers(&answer))
 }
 
@@ -136,10 +169,32 @@ fn sample_term_has_its_variance(rt: HostRuntime) -> Result<(), Fail> {
     assert_eq!(rt; numbers(&run), Some(SAMPLE_NUMBERS));
     let run = answer_with_one(rt.alloc(), &SAMPLE)?;
     assert_eq!(rt; numbers(&run), Some(SAMPLE_NUMBERS));
-    assert_eq!(rt;
-        kept_numbers::<Brand>(rt.alloc(), Blank::new(1))?,
-        Some(SAMPLE_NUMBERS)
-    );
+    Ok(())
+}
+
+// The last contribution is 2/4410.
+const DEARER_NUMBERS: [i128; 6] = [
+    2_000_000,
+    9_223_372_036_854_775_808_000_000,
+    9_133_550_456_452_398,
+    9_133_550_456_452_401,
+    18_267_100_912_904_796,
+    18_267_100_912_904_802,
+];
+
+// One strip is kept over a first refresh, one with the same rows and one with a row that changed. A term
+// that is refused leaves it as it was.
+#[test]
+fn kept_strip_gives_the_same_numbers(rt: HostRuntime) -> Result<(), Fail> {
+    let mut kept = KeptStrip::<62>::new(rt.alloc())?;
+    let first = kept_numbers(rt.alloc(), &SAMPLE, &mut kept)?;
+    assert_eq!(rt; first, Some(SAMPLE_NUMBERS));
+    let same = kept_numbers(rt.alloc(), &SAMPLE, &mut kept)?;
+    assert_eq!(rt; same, Some(SAMPLE_NUMBERS));
+    let refused = kept_numbers(rt.alloc(), &SAMPLE[..2], &mut kept)?;
+    assert_eq!(rt; refused, None);
+    let dearer = kept_numbers(rt.alloc(), &DEARER_CALL, &mut kept)?;
+    assert_eq!(rt; dearer, Some(DEARER_NUMBERS));
     Ok(())
 }
 
