@@ -1,6 +1,9 @@
 //! Verdicts over the first sample feed.
 
-use crate::{PlainBook, Verdict, check_cert, check_index, check_term};
+ghost use Rattle.std.specs.Prelude.{IfOk};
+ghost use Rattle.vx_tests.specs.Ranges.{IsVarianceInRange};
+
+use crate::{PlainBook, Verdict, check_cert, check_figure, check_index, check_term};
 use std::alloc::Global;
 use std::test::Fail;
 use vx_cert::{CertBody, CertFigure, CertRow, CertRows, CertTerm, Certificate, Ends, Pair};
@@ -111,8 +114,11 @@ fn asks_for_a_rate_of_zero(rt: HostRuntime) -> Result<(), Fail> {
     Ok(())
 }
 
-// The one term of the sample certificate of version 1: at rate zero each Taylor list is 2^60 and zeros.
-fn october_term(alloc: Global) -> Result<CertTerm, NoMemory> {
+// The one term of the sample certificate of version 1, so many minutes from its settlement: at rate zero
+// each Taylor list is 2^60 and zeros.
+fn october_term(alloc: Global, minutes: u32) -> Result<CertTerm, NoMemory>
+    ensures { IfOk result (λ term. IsVarianceInRange 60 term.w) }
+{
     let stated: [(u32, u32, u64); 3] = [
         (1_900_000, 4_000, 319_368_837_841_231),
         (2_000_000, 20_000, 1_441_151_880_758_558),
@@ -133,7 +139,7 @@ fn october_term(alloc: Global) -> Result<CertTerm, NoMemory> {
     taylor[0] = 1 << 60;
     Ok(CertTerm {
         expiry: OCTOBER,
-        minutes: 43_200,
+        minutes,
         rate: 0,
         t_lo: taylor,
         t_hi: taylor,
@@ -180,7 +186,7 @@ fn single(alloc: Global, stated: CertFigure) -> Result<Certificate, NoMemory> {
         line: 14,
         time: 510,
         body: CertBody::Single {
-            term: october_term(alloc)?,
+            term: october_term(alloc, 43_200)?,
             figure: stated,
         },
     })
@@ -208,14 +214,31 @@ fn accepts_the_sample_and_wider_ends(rt: HostRuntime) -> Result<(), Fail> {
 }
 
 #[test]
-fn tests_a_term_and_a_figure(rt: HostRuntime) -> Result<(), Fail> {
+fn tests_a_term(rt: HostRuntime) -> Result<(), Fail> {
     let Ok(book) = three_strikes(rt.alloc(), 0) else {
         return Err(Fail::from("no memory"));
     };
-    let Ok(term) = october_term(rt.alloc()) else {
+    let Ok(term) = october_term(rt.alloc(), 43_200) else {
         return Err(Fail::from("no memory"));
     };
     assert_eq!(rt; check_term(&book, 1, 14, 510, &term, 3, 14), Verdict::Yes);
     assert_eq!(rt; check_term(&book, 1, 14, 511, &term, 5, 14), Verdict::No(5));
+    Ok(())
+}
+
+// The near term settles in exactly 30 days, so that the next one has no weight there, and one at 31 days.
+#[test]
+fn tests_the_figure_of_two_terms(rt: HostRuntime) -> Result<(), Fail> {
+    let Ok(near) = october_term(rt.alloc(), 43_200) else {
+        return Err(Fail::from("no memory"));
+    };
+    let Ok(next) = october_term(rt.alloc(), 53_790) else {
+        return Err(Fail::from("no memory"));
+    };
+    let stated = figure(20_657_919, 20_657_920, 2_066);
+    assert_eq!(rt; check_figure(1, &near, &next, 30, &stated), Verdict::Yes);
+    assert_eq!(rt; check_figure(1, &near, &next, 31, &stated), Verdict::No(15));
+    let other = figure(20_657_919, 20_657_920, 2_065);
+    assert_eq!(rt; check_figure(1, &near, &next, 30, &other), Verdict::No(16));
     Ok(())
 }
