@@ -6,6 +6,9 @@ ghost use Rattle.vx_replay.specs.StandsFor.{HasPlace, MayStep, OfEvents, StandsF
 ghost use Rattle.vx_replay.specs.Stepped.{IsAnswerNext, IsStepAnswer};
 ghost use Rattle.vx_replay.specs.StripsAfter.{AreKeptAfter, AreKeptAfterTick};
 
+#[cfg(test)]
+mod kept_tests;
+
 use crate::answer::TickAnswer;
 use crate::tick::answer_tick;
 use std::alloc::Global;

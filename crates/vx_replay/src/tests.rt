@@ -4,11 +4,11 @@ ghost use Rattle.vx_feed.specs.declared.events.Event.{Event};
 ghost use Rattle.vx_feed.specs.Noted as noted;
 ghost use Rattle.vx_replay.specs.StandsFor.{StandsFor};
 
-use crate::{Reason, Replay, TickAnswer, Which};
+use crate::{Reason, Replay, SCALE, TickAnswer, Which, join_terms};
 use std::alloc::Global;
 use std::test::Fail;
 use vx_feed::{Order, read_event};
-use vx_term::TermRefusal;
+use vx_term::{TermAnswer, TermRefusal};
 
 // What a tick is answered, without the certificate.
 #[derive(Clone, Copy, Debug, PartialEq, Eq)]
@@ -26,7 +26,7 @@ struct Row {
     said: Said,
 }
 
-const DECLARED: [&str; 5] = [
+pub(crate) const DECLARED: [&str; 5] = [
     "H,1,2014-09-17",
     "E,SPX,2014-10-17",
     "E,SPXW,2014-10-24",
@@ -34,7 +34,7 @@ const DECLARED: [&str; 5] = [
     "R,SPXW,2014-10-24,0",
 ];
 
-const NEAR_LISTED: [&str; 6] = [
+pub(crate) const NEAR_LISTED: [&str; 6] = [
     "S,SPX   141017C01900000",
     "S,SPX   141017P01900000",
     "S,SPX   141017C02000000",
@@ -43,14 +43,14 @@ const NEAR_LISTED: [&str; 6] = [
     "S,SPX   141017P02100000",
 ];
 
-const NEAR_QUOTED: [&str; 4] = [
+pub(crate) const NEAR_QUOTED: [&str; 4] = [
     "Q,08:30,SPX   141017P01900000,10.00,10.00",
     "Q,08:30,SPX   141017C02000000,50.00,50.00",
     "Q,08:30,SPX   141017P02000000,50.00,50.00",
     "Q,08:30,SPX   141017C02100000,10.00,10.00",
 ];
 
-const NEXT_LISTED: [&str; 6] = [
+pub(crate) const NEXT_LISTED: [&str; 6] = [
     "S,SPXW  141024C01900000",
     "S,SPXW  141024P01900000",
     "S,SPXW  141024C02000000",
@@ -59,7 +59,7 @@ const NEXT_LISTED: [&str; 6] = [
     "S,SPXW  141024P02100000",
 ];
 
-const NEXT_QUOTED: [&str; 4] = [
+pub(crate) const NEXT_QUOTED: [&str; 4] = [
     "Q,08:30,SPXW  141024P01900000,10.00,10.00",
     "Q,08:30,SPXW  141024C02000000,50.00,50.00",
     "Q,08:30,SPXW  141024P02000000,50.00,50.00",
@@ -345,7 +345,7 @@ fn take_line(alloc: Global, line: &str, seen: &mut Order, replay: &mut Replay) -
 }
 
 // Takes up the lines of a piece, none of them a tick.
-fn take_piece(
+pub(crate) fn take_piece(
     alloc: Global,
     piece: &[&str],
     seen: &mut Order,
@@ -391,5 +391,31 @@ fn other_terms_are_answered(rt: HostRuntime) -> Result<(), Fail> {
         assert_eq!(rt; answer_of(rt.alloc(), row)?, row.said);
     }
     assert_eq!(rt; answer_of(rt.alloc(), &NEGATIVE)?, NEGATIVE.said);
+    Ok(())
+}
+
+// A strike between the ends of the near term's forward. A feed whose tick shows it is not known: at rate
+// zero, and where the pair's two prices are equal, the forward is never undecided, and else its
+// exponential is irrational.
+#[test]
+fn undecided_forward_is_handed_on(rt: HostRuntime) -> Result<(), Fail> {
+    let near = TermAnswer::<SCALE>::UndecidedForward {
+        strike: 1_960_000,
+        lo: 1_959_999_999_999_999,
+        hi: 1_960_000_000_000_001,
+    };
+    let next = TermAnswer::<SCALE>::Refused(TermRefusal::NoPair);
+    let answer = join_terms::<SCALE>(rt.alloc(), &near, &next, 27, 510, 30)?;
+    assert!(rt;
+        matches!(
+            answer,
+            TickAnswer::UndecidedForward {
+                which: Which::Near,
+                strike: 1_960_000,
+                lo: 1_959_999_999_999_999,
+                hi: 1_960_000_000_000_001,
+            }
+        )
+    );
     Ok(())
 }
