@@ -9,6 +9,8 @@ mod operands;
 mod program;
 mod replay;
 mod request;
+#[cfg(test)]
+mod tests;
 mod tick_lines;
 mod words;
 
