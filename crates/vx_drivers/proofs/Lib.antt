@@ -1,9 +1,11 @@
 -- Lemmas on the steps of a run, on its exits, and that it has one text.
 mod AlongLemmas
+pub mod CauseLemmas
 mod CertificateLemmas
 pub mod ExitLemmas
 mod FailureLemmas
 pub mod OneRun
+pub mod RunIsThere
 pub mod RunLemmas
 pub mod SendingLemmas
 pub mod TickLawLemmas

@@ -4,10 +4,8 @@ use Rattle.std.specs.Prelude.{◌==◌, nat_lt, if◌then◌else◌}
 use Rattle.std.proofs.lemmas.Bool.Decides.{nat_tests}
 use Rattle.vx_lines.specs.TextLines.{Ending, TextLines, at_end, ended, lines_then, no_eol, too_long, too_many}
 use Rattle.vx_feed.specs.declared.events.Event.{Event}
-use Rattle.vx_feed.specs.Feed as text
-use Rattle.vx_feed.specs.Feed.{BadCause, BadLine, Reading}
+use Rattle.vx_feed.specs.Feed.{BadLine, Reading}
 use Rattle.vx_reading.specs.declared.stop.FeedCause.{FeedCause}
-use Rattle.vx_reading.specs.declared.stop.FeedCause.TheVariants as feed_cause
 use Rattle.vx_reading.specs.FeedReading.{is_met}
 use Rattle.vx_reading.specs.Stops.{bad_cause}
 use Rattle.vx_drivers.specs.declared.exit.Exit.{Exit}
@@ -20,31 +18,20 @@ use Rattle.vx_drivers.specs.CertificateRun.{AllAnswered, Answers, AnswersCertifi
 use Rattle.vx_drivers.specs.CertificateSteps.{said_exit}
 use Rattle.vx_drivers.specs.Sending.{Text}
 use Rattle.vx_drivers.proofs.AlongLemmas.{along_one}
+use Rattle.vx_drivers.proofs.CauseLemmas.{cause_one}
 
--- ---- causes are told apart
+-- ---- endings are told apart
 
-abbrev line_of : BadCause → FeedCause
-line_of (text.of_fault fault) = feed_cause.Event fault
-line_of text.too_long = feed_cause.TooLong
-line_of text.no_eol = feed_cause.NoEol
-line_of text.missing_end = feed_cause.MissingEnd
+abbrev line_of : Ending → LineCause
+line_of at_end = line.TooLong
+line_of too_long = line.TooLong
+line_of no_eol = line.NoEol
+line_of too_many = line.TooMany
 
-line_of-cause : (why : FeedCause) → line_of (bad_cause why) ≡ why
-line_of-cause (feed_cause.Event fault) = refl
-line_of-cause feed_cause.TooLong = refl
-line_of-cause feed_cause.NoEol = refl
-line_of-cause feed_cause.MissingEnd = refl
-
-abbrev cause_of : Ending → LineCause
-cause_of at_end = line.TooLong
-cause_of too_long = line.TooLong
-cause_of no_eol = line.NoEol
-cause_of too_many = line.TooMany
-
-cause_of-ending : (why : LineCause) → cause_of (ending_for why) ≡ why
-cause_of-ending line.TooLong = refl
-cause_of-ending line.NoEol = refl
-cause_of-ending line.TooMany = refl
+line_of-ending : (why : LineCause) → line_of (ending_for why) ≡ why
+line_of-ending line.TooLong = refl
+line_of-ending line.NoEol = refl
+line_of-ending line.TooMany = refl
 
 not_at_end : (why : LineCause) → ending_for why ≡ at_end → ⊥
 not_at_end line.TooLong h = cc
@@ -150,13 +137,13 @@ module _ {C : Type 0} (rules : Rules C)
   feed_one : (stand : Stand) (rest : TextLines) (a b : Exit) → IsAtFeedLine stand rest a → IsAtFeedLine stand rest b → a ≡ b
   feed_one stand rest a b h k =
       let same = same_bad feed.bad feed.bad (record { line = h.number; cause = bad_cause h.why }) (record { line = k.number; cause = bad_cause k.why }) h.bad k.bad in
-      let why : h.why ≡ k.why = sym (line_of-cause h.why) ∙ ap (λ (l : BadLine). line_of l.cause) same ∙ line_of-cause k.why in
+      let why : h.why ≡ k.why = cause_one h.why k.why (ap (λ (l : BadLine). l.cause) same) in
       h.exit_is ∙ ap (λ (n : ℕ). BadFeed n h.why) (ap (λ (l : BadLine). l.line) same) ∙ ap (λ (w : FeedCause). BadFeed k.number w) why ∙ sym k.exit_is
 
   certificate_line_one : (stand : Stand) (rest : TextLines) (a b : Exit) → IsAtCertificateLine stand rest a → IsAtCertificateLine stand rest b → a ≡ b
   certificate_line_one stand rest a b h k =
       let endings : ending_for h.why ≡ ending_for k.why = ap (λ (t : TextLines). t.ending) (sym h.rest_is ∙ k.rest_is) in
-      let why : h.why ≡ k.why = sym (cause_of-ending h.why) ∙ ap cause_of endings ∙ cause_of-ending k.why in
+      let why : h.why ≡ k.why = sym (line_of-ending h.why) ∙ ap line_of endings ∙ line_of-ending k.why in
       h.exit_is ∙ ap (λ (w : LineCause). BadCerts (length stand.answers + 1) w) why ∙ sym k.exit_is
 
   ends_one : (stand : Stand) (rest : TextLines) (a b : Exit) → EndsAs stand rest a → EndsAs stand rest b → a ≡ b

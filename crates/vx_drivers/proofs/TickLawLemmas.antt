@@ -2,10 +2,7 @@
 use Rattle.std.proofs.Common.{◌≡◌, ◌∙◌, sym, ap, subst, refl, List, [], ◌∷◌, ◌++◌, Option, Some, None}
 use Rattle.std.proofs.lemmas.List.{append-nil, append_assoc}
 use Rattle.vx_feed.specs.declared.events.Event.{Event}
-use Rattle.vx_feed.specs.Feed.{BadCause, BadLine, Reading, missing_end, no_eol, of_fault, too_long}
-use Rattle.vx_reading.specs.declared.stop.FeedCause.{FeedCause}
-use Rattle.vx_reading.specs.declared.stop.FeedCause.TheVariants as cause
-use Rattle.vx_reading.specs.Stops.{bad_cause}
+use Rattle.vx_feed.specs.Feed.{BadLine, Reading}
 use Rattle.vx_drivers.specs.declared.exit.Exit.{Exit}
 use Rattle.vx_drivers.specs.declared.exit.Exit.TheVariants.{Done, BadFeed}
 use Rattle.vx_drivers.specs.Along.{Along}
@@ -13,34 +10,9 @@ use Rattle.vx_drivers.specs.TickLaws.{GivesEach, TickRunIsOne, TickRunIsThere}
 use Rattle.vx_drivers.specs.TickRun.{EndsTicks, TickRules, TickStand, TakesEvent}
 use Rattle.vx_drivers.specs.TickRun.{certificates_text, counts_text, lines_text, no_events, one_more, unless_bad}
 use Rattle.vx_drivers.proofs.AlongLemmas.{along_one}
+use Rattle.vx_drivers.proofs.CauseLemmas.{cause_of, cause_one}
 
 -- ---- the exit
-
--- a cause of a bad line is that of one fault of a feed line
-cause_one : (a b : FeedCause) → bad_cause a ≡ bad_cause b → a ≡ b
-cause_one (cause.Event f) (cause.Event g) h = let same : f ≡ g = cc in ap (λ x. cause.Event x) same
-cause_one (cause.Event f) cause.TooLong h = absurd (let no : ⊥ = cc in no)
-cause_one (cause.Event f) cause.NoEol h = absurd (let no : ⊥ = cc in no)
-cause_one (cause.Event f) cause.MissingEnd h = absurd (let no : ⊥ = cc in no)
-cause_one cause.TooLong (cause.Event g) h = absurd (let no : ⊥ = cc in no)
-cause_one cause.TooLong cause.TooLong h = refl
-cause_one cause.TooLong cause.NoEol h = absurd (let no : ⊥ = cc in no)
-cause_one cause.TooLong cause.MissingEnd h = absurd (let no : ⊥ = cc in no)
-cause_one cause.NoEol (cause.Event g) h = absurd (let no : ⊥ = cc in no)
-cause_one cause.NoEol cause.TooLong h = absurd (let no : ⊥ = cc in no)
-cause_one cause.NoEol cause.NoEol h = refl
-cause_one cause.NoEol cause.MissingEnd h = absurd (let no : ⊥ = cc in no)
-cause_one cause.MissingEnd (cause.Event g) h = absurd (let no : ⊥ = cc in no)
-cause_one cause.MissingEnd cause.TooLong h = absurd (let no : ⊥ = cc in no)
-cause_one cause.MissingEnd cause.NoEol h = absurd (let no : ⊥ = cc in no)
-cause_one cause.MissingEnd cause.MissingEnd h = refl
-
--- and there is such a fault
-cause_of : (cause : BadCause) → (why : FeedCause) × (cause ≡ bad_cause why)
-cause_of (of_fault f) = (cause.Event f, refl)
-cause_of too_long = (cause.TooLong, refl)
-cause_of no_eol = (cause.NoEol, refl)
-cause_of missing_end = (cause.MissingEnd, refl)
 
 exit_one : (bad : Option BadLine) (exit other : Exit) → EndsTicks bad exit → EndsTicks bad other → exit ≡ other
 exit_one None exit other h k = h ∙ sym k

@@ -2,6 +2,7 @@
 pub mod Along
 pub mod Answers
 pub mod CertificateExits
+pub mod CertificateLaws
 pub mod CertificateRun
 pub mod CertificateSteps
 pub mod Exits

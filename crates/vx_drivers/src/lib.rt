@@ -21,7 +21,7 @@ pub use certificates::AnswersCertificates;
 pub use check_run::answer_certificates;
 pub use devices::{open_slot, send_line};
 pub use exit::{Exit, LineCause, PositionCause};
-pub use laws::certificate_run_is_one;
+pub use laws::{certificate_run_is_one, certificate_run_is_there};
 pub use tick_laws::tick_run_is_one;
 pub use tick_run::answer_ticks;
 pub use ticks::{AnswersTicks, Tally};
