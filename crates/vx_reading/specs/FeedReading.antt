@@ -46,6 +46,12 @@ pub record IsAt {T : Type 0} (StandsFor : T → List Event → Type 0) (whole : 
 abbrev pub IsReading : {T : Type 0} → (T → List Event → Type 0) → FeedReader T → (Slot → Told) → Type 0
 IsReading StandsFor feed told = (whole : Option Reading) × (events : List Event) × IsAt StandsFor whole events feed told
 
+-- what has taken up the events of a feed
+abbrev pub IsTakerOf : {T : Type 0} → (T → List Event → Type 0) → FeedReader T → T → Type 0
+IsTakerOf StandsFor feed taker =
+    (whole : Option Reading) (events : List Event) (told : Slot → Told) → IsAt StandsFor whole events feed told
+    → StandsFor taker events
+
 -- the whole feed, where it is told, says this
 abbrev pub Says : Option Reading → Reading → Type 0
 Says whole said = IfSome whole (λ feed. feed ≡ said)

@@ -1,5 +1,5 @@
 -- The lines of a feed, some of them read ahead and split into fields, to be taken one after another.
-use Rattle.std.specs.Prelude.{◌≡◌, ℕ, ◌<◌, Bool, true, false, not, ◌||◌, nat_lt, List, [], ◌∷◌, ◌++◌, length, map, drop, Option, Some, None, IfSome, Result, Ok, Err}
+use Rattle.std.specs.Prelude.{◌≡◌, ℕ, ◌<◌, Bool, true, false, not, ◌||◌, nat_lt, List, [], ◌∷◌, ◌++◌, length, map, drop, Option, Some, None, IfSome, Result, Ok, Err, OnOk, slice_get}
 use Rattle.std.specs.Option.{option_map}
 use Rattle.vx_lines.specs.TextLines.{TextLines, at_end}
 use Rattle.vx_desk.specs.declared.device.Slot.{Slot}
@@ -9,8 +9,10 @@ use Rattle.vx_fields.specs.Lines.{fields_of_line}
 use Rattle.vx_feed.specs.declared.events.Event.{Event}
 use Rattle.vx_feed.specs.declared.faults.FeedFault.{FeedFault}
 use Rattle.vx_feed.specs.declared.limits.TheConstants.{LINE_LEN_MAX}
-use Rattle.vx_feed.specs.Feed.{BadCause, Reading, next_event, with_cause, stopped_at, reading_after}
+use Rattle.vx_feed.specs.Feed.{BadCause, Reading, next_event, with_cause, stopped_at, reading_after, unsplit_fault}
+use Rattle.vx_feed.specs.Noted.{StandsFor}
 use Rattle.vx_feed.specs.Order.{IsLawfulNext}
+use Rattle.vx_feed.specs.declared.order.Order.{Order}
 use Rattle.vx_reading.specs.declared.ahead.LinesAhead.{LinesAhead}
 use Rattle.vx_reading.specs.declared.ahead.Rest.{Rest}
 use Rattle.vx_reading.specs.declared.ahead.Rest.TheVariants.{More, End, Bad}
@@ -79,6 +81,14 @@ abbrev pub Adds : List ℕ → Option FeedFault → LinesAhead → LinesAhead �
 Adds line None old new = (new.block ≡ old.block ++ line ∷ []) × (new.rest ≡ old.rest)
 Adds line (Some fault) old new = (new.block ≡ old.block) × (new.rest ≡ Bad (cause.Event fault))
 
+-- the line that was read last is added to a block, or the block stops before it
+abbrev pub AddsLast : LinesAhead → LinesAhead → Type 0
+AddsLast old new = Adds old.lines.last_bytes (unsplit_fault old.lines.last_bytes) old new
+
+-- a step that succeeds leaves what is said after any events
+abbrev pub SaysSame : {T : Type 0} → (List Event → Option Reading) → (List Event → Option Reading) → Result T FeedStop → Type 0
+SaysSame old new result = (events : List Event) → OnOk result (new events ≡ old events)
+
 -- the stop names no line
 abbrev pub IsNoLine : FeedStop → Type 0
 IsNoLine (BadLine line cause) = ⊥
@@ -97,6 +107,12 @@ SaysEvent said events number (Err (BadLine line why)) = (line ≡ number) × IsC
 SaysEvent said events number (Err NoMemory) = Unit {0}
 SaysEvent said events number (Err Device) = ⊥
 
+-- the line at this place of a table says its event, or its fault, after the events that were noted
+abbrev pub SaysLineAt : List (List (List ℕ)) → ℕ → Order → ℕ → Result (Option Event) FeedStop → Type 0
+SaysLineAt table at order number result =
+    (events : List Event) (fields : List (List ℕ)) → StandsFor order events → slice_get table at ≡ Some fields
+    → SaysEvent (with_cause (next_event events fields)) events number result
+
 -- what a feed says after these events is told by the next line's event and what comes after it, by the end of
 -- the feed, or by the bad line of this number; want of memory says nothing
 abbrev pub TakesNext : Option Reading → List Event → (List Event → Option Reading) → ℕ → Result (Option Event) FeedStop → Type 0
@@ -105,3 +121,9 @@ TakesNext whole events more number (Ok None) = (whole ≡ more events) × IfSome
 TakesNext whole events more number (Err (BadLine line why)) = (line ≡ number) × IsCause why × IfSome whole (λ feed. feed ≡ stopped_at events (bad_cause why))
 TakesNext whole events more number (Err NoMemory) = Unit {0}
 TakesNext whole events more number (Err Device) = ⊥
+
+-- the next of the lines ahead is taken, after the events that were noted
+abbrev pub TakesAhead : LinesAhead → LinesAhead → Order → ℕ → Result (Option Event) FeedStop → Type 0
+TakesAhead old new order number result =
+    (events : List Event) (told : Slot → Told) → StandsFor order events
+    → TakesNext (ahead_says old told events) events (ahead_says new told) number result

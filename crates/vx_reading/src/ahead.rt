@@ -1,11 +1,7 @@
 //! Feed lines that were read ahead, so that many are split together.
 
-ghost use Rattle.std.specs.Prelude.{◌≡◌, ◌≢◌, ◌<◌, ℕ, length, slice_get, List, MatchBool, Some};
-ghost use Rattle.vx_feed.specs.declared.events.Event.{Event};
-ghost use Rattle.vx_feed.specs.Feed.{next_event, with_cause};
-ghost use Rattle.vx_feed.specs.Noted.{StandsFor};
-ghost use Rattle.vx_feed.specs.Order.{IsLawfulNext};
-ghost use Rattle.vx_reading.specs.LinesAhead.{SaysEvent};
+ghost use Rattle.std.specs.Prelude.{◌≡◌, ◌≢◌, ◌<◌, length, MatchBool};
+ghost use Rattle.vx_reading.specs.LinesAhead.{SaysLineAt};
 
 use crate::stop::{FeedCause, FeedStop};
 use std::alloc::Global;
@@ -57,7 +53,7 @@ fn event_of_line(
     number: u64,
 ) -> Result<Option<Event>, FeedStop>
     requires within { at < length table.now }
-    ensures { (events : List Event) (fields : List (List ℕ)) → StandsFor order.now events → slice_get table.now at ≡ Some fields → SaysEvent (with_cause (next_event events fields)) events number result }
+    ensures { SaysLineAt table.now at order.now number result }
 {
     match event_of_fields(&table.line(at), order) {
         Ok(event) => Ok(Some(event)),
@@ -70,18 +66,14 @@ fn event_of_line(
 }
 
 impl LinesAhead {
-    ghost use Rattle.std.specs.Prelude.{◌≡◌, ◌+◌, ◌<◌, ◌≤◌, ℕ, [], true, IsTrue, IfOk, IfErr, List, OnOk, Some, length, map};
+    ghost use Rattle.std.specs.Prelude.{◌≡◌, ◌+◌, ◌<◌, ◌≤◌, true, IsTrue, IfOk, IfErr, OnOk, Some, length, map};
     ghost use Rattle.vx_fields.specs.Lines.{fields_of_line};
-    ghost use Rattle.vx_feed.specs.Feed.{unsplit_fault};
-    ghost use Rattle.vx_feed.specs.declared.events.Event.{Event};
-    ghost use Rattle.vx_feed.specs.Noted.{StandsFor};
-    ghost use Rattle.vx_feed.specs.Order.{IsLawfulNext};
-    ghost use Rattle.vx_desk.specs.Told.{ChangesOnly, Told};
+    ghost use Rattle.vx_desk.specs.Told.{ChangesOnly};
     ghost use Rattle.vx_reading.specs.Failures.{IsStep};
     ghost use Rattle.vx_reading.specs.Stops.{failed_in};
-    ghost use Rattle.vx_reading.specs.LinesAhead.{Adds, HasNext, IsAhead, IsFreshAhead, IsNoFault, IsNoLine, TakesNext, ahead_says, block_says, is_in_hand};
+    ghost use Rattle.vx_reading.specs.LinesAhead.{AddsLast, HasNext, IsAhead, IsFreshAhead, IsNoFault, IsNoLine};
+    ghost use Rattle.vx_reading.specs.LinesAhead.{SaysSame, TakesAhead, ahead_says, block_says, is_in_hand};
     ghost use Rattle.vx_desk.specs.Lines.{holds_line};
-    ghost use Rattle.vx_desk.specs.declared.device.Slot.{Slot};
 
     /// The lines of a feed of which nothing was read.
     pub(crate) fn new(alloc: Global) -> Result<LinesAhead, NoMemory>
@@ -102,7 +94,7 @@ impl LinesAhead {
         requires ahead { IsAhead self.old }
         requires last { self.old.lines.last ≡ Some line.now }
         ensures ahead { OnOk result (IsAhead self.new) }
-        ensures adds { OnOk result (Adds self.old.lines.last_bytes (unsplit_fault self.old.lines.last_bytes) self.old self.new) }
+        ensures adds { OnOk result (AddsLast self.old self.new) }
         ensures lines { self.new.lines ≡ self.old.lines }
         ensures one { OnOk result (self.new.rest ≡ Rest.More → length self.new.block ≡ length self.old.block + 1) }
     {
@@ -122,7 +114,7 @@ impl LinesAhead {
         requires more { self.old.rest ≡ Rest.More }
         requires open { IsTrue (D.told desk.old Slot.Feed).is_open }
         ensures ahead { OnOk result (IsAhead self.new) }
-        ensures says { (events : List Event) → OnOk result (block_says self.new (D.told desk.new) events ≡ block_says self.old (D.told desk.old) events) }
+        ensures says { SaysSame (block_says self.old (D.told desk.old)) (block_says self.new (D.told desk.new)) result }
         ensures one { OnOk result (self.new.rest ≡ Rest.More → length self.new.block ≡ length self.old.block + 1) }
         ensures no_line { IfErr result IsNoLine }
         ensures in_hand { holds_line self.old.lines ≡ true → (desk.new ≡ desk.old) × IfErr result IsNoFault }
@@ -147,7 +139,7 @@ impl LinesAhead {
         requires some { self.old.rest ≡ Rest.More → 0 < length self.old.block }
         requires open { IsTrue (D.told desk.old Slot.Feed).is_open }
         ensures ahead { OnOk result (IsAhead self.new) }
-        ensures says { (events : List Event) → OnOk result (block_says self.new (D.told desk.old) events ≡ block_says self.old (D.told desk.old) events) }
+        ensures says { SaysSame (block_says self.old (D.told desk.old)) (block_says self.new (D.told desk.old)) result }
         ensures some { OnOk result (self.new.rest ≡ Rest.More → 0 < length self.new.block) }
         ensures no_line { IfErr result IsNoLine }
         ensures no_fault { IfErr result IsNoFault }
@@ -169,7 +161,7 @@ impl LinesAhead {
         requires used { length self.old.table ≤ self.old.taken }
         requires open { IsTrue (D.told desk.old Slot.Feed).is_open }
         ensures ahead { OnOk result (IsAhead self.new) }
-        ensures says { (events : List Event) → OnOk result (block_says self.new (D.told desk.new) events ≡ ahead_says self.old (D.told desk.old) events) }
+        ensures says { SaysSame (ahead_says self.old (D.told desk.old)) (block_says self.new (D.told desk.new)) result }
         ensures some { OnOk result (self.new.rest ≡ Rest.More → 0 < length self.new.block) }
         ensures no_line { IfErr result IsNoLine }
         ensures in_hand { holds_line self.old.lines ≡ true → (desk.new ≡ desk.old) × IfErr result IsNoFault }
@@ -196,7 +188,7 @@ impl LinesAhead {
         requires ahead { IsAhead self.old }
         requires open { IsTrue (D.told desk.old Slot.Feed).is_open }
         ensures ahead { OnOk result (IsAhead self.new) }
-        ensures says { (events : List Event) → OnOk result (ahead_says self.new (D.told desk.new) events ≡ ahead_says self.old (D.told desk.old) events) }
+        ensures says { SaysSame (ahead_says self.old (D.told desk.old)) (ahead_says self.new (D.told desk.new)) result }
         ensures next { OnOk result (HasNext self.new) }
         ensures no_line { IfErr result IsNoLine }
         ensures in_hand { is_in_hand self.old ≡ true → (desk.new ≡ desk.old) × IfErr result IsNoFault }
@@ -215,7 +207,7 @@ impl LinesAhead {
         requires ahead { IsAhead self.old }
         requires next { HasNext self.old }
         ensures ahead { IsAhead self.new }
-        ensures takes { (events : List Event) (told : Slot → Told) → StandsFor order.now events → TakesNext (ahead_says self.old told events) events (ahead_says self.new told) number result }
+        ensures takes { TakesAhead self.old self.new order.now number result }
     {
         let at = self.taken;
         if at < self.table.len() {

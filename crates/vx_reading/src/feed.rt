@@ -35,17 +35,17 @@ fn is_end(event: &Event) -> bool
 }
 
 impl<T: TakesEvents> FeedReader<T> {
-    ghost use Rattle.std.specs.Prelude.{◌≡◌, ◌≤◌, ◌+◌, ◌^◌, ◌-◌, ◌<◌, ℕ, [], ◌∷◌, ◌++◌, length, true, IsTrue, IfErr, IfOk, List, OnOk, Option, Some};
+    ghost use Rattle.std.specs.Prelude.{◌≡◌, [], true, IsTrue, IfErr, IfOk, List};
     ghost use Rattle.vx_desk.specs.Told.{ChangesOnly, Told};
     ghost use Rattle.vx_desk.specs.declared.device.Slot.{Slot};
     ghost use Rattle.vx_feed.specs.declared.events.Event.{Event};
-    ghost use Rattle.vx_feed.specs.Feed.{Reading};
-    ghost use Rattle.vx_feed.specs.Noted as noted;
     ghost use Rattle.vx_feed.specs.Order.{IsLawfulNext};
     ghost use Rattle.vx_reading.specs.Failures.{IsStep};
     ghost use Rattle.vx_reading.specs.Stops.{failed_in};
-    ghost use Rattle.vx_reading.specs.LinesAhead.{IsNoFault, is_in_hand};
-    ghost use Rattle.vx_reading.specs.FeedReading.{EndsAt, HasTakenUp, IsAt, IsReading, TakesAll, TakesOne, TakesUpTo, feed_told, is_waiting};
+    ghost use Rattle.vx_reading.specs.LinesAhead.{IsNoFault};
+    ghost use Rattle.vx_reading.specs.FeedReading.{EndsAt, HasTakenUp, IsAt, IsReading, IsTakerOf, TakesAll, TakesOne};
+    ghost use Rattle.vx_reading.specs.FeedReading.{TakesUpTo, feed_told, is_waiting};
+    ghost use Rattle.vx_reading.specs.Takes.{TakesUp};
 
     /// The reader of a feed of which no line was read.
     #[tactic(auto, using(crate::proofs::FeedLemmas::starts))]
@@ -64,7 +64,7 @@ impl<T: TakesEvents> FeedReader<T> {
 
     /// What has taken up the events of the lines that were read.
     pub fn taker(&self) -> &T
-        ensures { (whole : Option Reading) (events : List Event) (told : Slot → Told) → IsAt T.StandsFor whole events self.now told → T.StandsFor result.now events }
+        ensures { IsTakerOf T.StandsFor self.now result.now }
     {
         &self.taker
     }
@@ -72,7 +72,7 @@ impl<T: TakesEvents> FeedReader<T> {
     /// Takes up one more event.
     fn push(&mut self, event: Event) -> Result<(), NoMemory>
         requires may { (events : List Event) × HasTakenUp T.StandsFor self.old events × IsLawfulNext events event }
-        ensures taken { (events : List Event) → HasTakenUp T.StandsFor self.old events → IsLawfulNext events event → OnOk result (HasTakenUp T.StandsFor self.new (events ++ event ∷ [])) }
+        ensures taken { TakesUp (HasTakenUp T.StandsFor) self.old event self.new result }
         ensures ahead { self.new.ahead ≡ self.old.ahead }
     {
         self.order.note(&event)?;

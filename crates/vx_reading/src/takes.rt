@@ -1,8 +1,9 @@
 //! What takes up the events of a feed.
 
-ghost use Rattle.std.specs.Prelude.{List, [], ◌∷◌, ◌++◌, OnOk, OnErr};
+ghost use Rattle.std.specs.Prelude.{List, OnErr};
 ghost use Rattle.vx_feed.specs.declared.events.Event.{Event};
 ghost use Rattle.vx_feed.specs.Order.{IsLawfulNext};
+ghost use Rattle.vx_reading.specs.Takes.{TakesUp};
 
 use vx_feed::Event;
 use vx_num::NoMemory;
@@ -16,6 +17,6 @@ pub trait TakesEvents: Drop {
     /// Takes up the next event. For want of memory the value stands for what it stood for before.
     fn take(&mut self, event: Event) -> Result<(), NoMemory>
         requires lawful { (events : List Event) × StandsFor self.old events × IsLawfulNext events event }
-        ensures taken { (events : List Event) → StandsFor self.old events → IsLawfulNext events event → OnOk result (StandsFor self.new (events ++ event ∷ [])) }
+        ensures taken { TakesUp StandsFor self.old event self.new result }
         ensures kept { (events : List Event) → StandsFor self.old events → OnErr result (StandsFor self.new events) };
 }
