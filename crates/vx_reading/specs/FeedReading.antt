@@ -1,5 +1,5 @@
 -- A feed as a command reads it, with what takes up its events.
-use Rattle.std.specs.Prelude.{◌≡◌, ℕ, ◌≤◌, ◌+◌, Bool, true, false, nat_le, List, [], ◌∷◌, ◌++◌, length, take, Option, Some, None, IfSome, Result, Ok, Err}
+use Rattle.std.specs.Prelude.{◌≡◌, ℕ, ◌<◌, ◌≤◌, ◌+◌, Bool, true, false, nat_le, List, [], ◌∷◌, ◌++◌, length, take, Option, Some, None, IfSome, Result, Ok, Err}
 use Rattle.std.specs.Option.{option_map, option_map_or}
 use Rattle.std.specs.List.{list_any}
 use Rattle.vx_desk.specs.declared.device.Slot.{Slot}
@@ -67,13 +67,13 @@ EndsAt false number result = result ≡ Err (BadLine number MissingEnd)
 
 -- ---- one line more
 
--- one more event is taken up, or the feed ends here, or the next line is bad; a fault of the device and want of
--- memory say nothing
+-- one more event is taken up, or the feed ends here, or the next line is bad; at a fault of the device the same events
+-- are taken up, and want of memory says nothing
 abbrev pub ReadsNext : {T : Type 0} → (T → List Event → Type 0) → Option Reading → List Event → FeedReader T → (Slot → Told) → Result (Option Event) FeedStop → Type 0
 ReadsNext StandsFor whole events feed told (Ok (Some event)) = IsAt StandsFor whole (events ++ event ∷ []) feed told
 ReadsNext StandsFor whole events feed told (Ok None) = IsAt StandsFor whole events feed told × Says whole (all_good events)
 ReadsNext StandsFor whole events feed told (Err (BadLine line why)) = (line ≡ length events + 1) × IsCause why × Says whole (stopped_at events (bad_cause why))
-ReadsNext StandsFor whole events feed told (Err Device) = Unit {0}
+ReadsNext StandsFor whole events feed told (Err Device) = IsAt StandsFor whole events feed told
 ReadsNext StandsFor whole events feed told (Err NoMemory) = Unit {0}
 
 -- the next line is read
@@ -98,13 +98,14 @@ pub record NamesBad (whole : Option Reading) (number : ℕ) (line : ℕ) (why : 
   pub within : line ≤ number
   pub has_cause : IsCause why
 
--- the feed is read up to a line or to its end, or its bad line is met; a fault of the device and want of memory say
--- nothing
+-- the feed is read up to a line or to its end, or its bad line is met; at a fault of the device it is read up to an
+-- earlier line, and want of memory says nothing
 abbrev pub ReadsTo : {T : Type 0} → (T → List Event → Type 0) → Option Reading → ℕ → FeedReader T → (Slot → Told) → Result Unit FeedStop → Type 0
 ReadsTo StandsFor whole number feed told (Ok _) =
     (events : List Event) × IsAt StandsFor whole events feed told × (length events ≤ number) × IfSome whole (IsReadTo number events)
 ReadsTo StandsFor whole number feed told (Err (BadLine line why)) = NamesBad whole number line why
-ReadsTo StandsFor whole number feed told (Err Device) = Unit {0}
+ReadsTo StandsFor whole number feed told (Err Device) =
+    (events : List Event) × IsAt StandsFor whole events feed told × (length events < number)
 ReadsTo StandsFor whole number feed told (Err NoMemory) = Unit {0}
 
 -- the lines up to this number are read, of which more were not read before
@@ -114,12 +115,14 @@ TakesUpTo StandsFor number old before new after result =
 
 -- ---- the whole feed
 
--- all lines are read and none is bad, or the bad line is met; a fault of the device and want of memory say nothing
+-- all lines are read and none is bad, or the bad line is met; at a fault of the device it is read up to some line, and
+-- want of memory says nothing
 abbrev pub ReadsAll : {T : Type 0} → (T → List Event → Type 0) → Option Reading → FeedReader T → (Slot → Told) → Result Unit FeedStop → Type 0
 ReadsAll StandsFor whole feed told (Ok _) = (events : List Event) × IsAt StandsFor whole events feed told × Says whole (all_good events)
 ReadsAll StandsFor whole feed told (Err (BadLine line why)) =
     IsCause why × (events : List Event) × (line ≡ length events + 1) × Says whole (stopped_at events (bad_cause why))
-ReadsAll StandsFor whole feed told (Err Device) = Unit {0}
+ReadsAll StandsFor whole feed told (Err Device) =
+    (events : List Event) × IsAt StandsFor whole events feed told
 ReadsAll StandsFor whole feed told (Err NoMemory) = Unit {0}
 
 -- the rest of the feed is read

@@ -71,8 +71,8 @@ impl LinesAhead {
     ghost use Rattle.vx_desk.specs.Told.{ChangesOnly};
     ghost use Rattle.vx_reading.specs.Failures.{IsStep};
     ghost use Rattle.vx_reading.specs.Stops.{failed_in};
-    ghost use Rattle.vx_reading.specs.LinesAhead.{AddsLast, HasNext, IsAhead, IsFreshAhead, IsNoFault, IsNoLine};
-    ghost use Rattle.vx_reading.specs.LinesAhead.{SaysSame, TakesAhead, ahead_says, block_says, is_in_hand};
+    ghost use Rattle.vx_reading.specs.LinesAhead.{AddsLast, HasNext, IsAhead, IsFaulted, IsFreshAhead, IsNoFault, IsNoLine};
+    ghost use Rattle.vx_reading.specs.LinesAhead.{OnFault, SaysSame, TakesAhead, ahead_says, block_says, is_in_hand};
     ghost use Rattle.vx_desk.specs.Lines.{holds_line};
 
     /// The lines of a feed of which nothing was read.
@@ -117,6 +117,7 @@ impl LinesAhead {
         ensures says { SaysSame (block_says self.old (D.told desk.old)) (block_says self.new (D.told desk.new)) result }
         ensures one { OnOk result (self.new.rest ≡ Rest.More → length self.new.block ≡ length self.old.block + 1) }
         ensures no_line { IfErr result IsNoLine }
+        ensures fault { OnFault result (IsFaulted self.old self.new (D.told desk.old) (D.told desk.new)) }
         ensures in_hand { holds_line self.old.lines ≡ true → (desk.new ≡ desk.old) × IfErr result IsNoFault }
         ensures step { IsStep (failed_in result) (D.told desk.old) (D.told desk.new) }
         ensures others { ChangesOnly Slot.Feed (D.told desk.old) (D.told desk.new) }
@@ -164,6 +165,7 @@ impl LinesAhead {
         ensures says { SaysSame (ahead_says self.old (D.told desk.old)) (block_says self.new (D.told desk.new)) result }
         ensures some { OnOk result (self.new.rest ≡ Rest.More → 0 < length self.new.block) }
         ensures no_line { IfErr result IsNoLine }
+        ensures fault { OnFault result (IsFaulted self.old self.new (D.told desk.old) (D.told desk.new)) }
         ensures in_hand { holds_line self.old.lines ≡ true → (desk.new ≡ desk.old) × IfErr result IsNoFault }
         ensures step { IsStep (failed_in result) (D.told desk.old) (D.told desk.new) }
         ensures others { ChangesOnly Slot.Feed (D.told desk.old) (D.told desk.new) }
@@ -191,6 +193,7 @@ impl LinesAhead {
         ensures says { SaysSame (ahead_says self.old (D.told desk.old)) (ahead_says self.new (D.told desk.new)) result }
         ensures next { OnOk result (HasNext self.new) }
         ensures no_line { IfErr result IsNoLine }
+        ensures fault { OnFault result (IsFaulted self.old self.new (D.told desk.old) (D.told desk.new)) }
         ensures in_hand { is_in_hand self.old ≡ true → (desk.new ≡ desk.old) × IfErr result IsNoFault }
         ensures step { IsStep (failed_in result) (D.told desk.old) (D.told desk.new) }
         ensures others { ChangesOnly Slot.Feed (D.told desk.old) (D.told desk.new) }
