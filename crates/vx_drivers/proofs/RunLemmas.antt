@@ -367,7 +367,9 @@ starts_new rules StandsFor run reader told new is =
     starts rules StandsFor run told (allowed (answered_lines run) reader told) new (allowed_all (answered_lines run) reader told zero is)
 
 -- the line after those that were answered is bad
-pub cert_bad_at : {C B : Type 0} (rules : Rules C) (StandsFor : B → List Event → Type 0) (feed : Option Reading) (certs : Option TextLines) (before : Told) (run : CheckRun B) (between now : Slot → Told) (rest : Option TextLines) (exit : Exit) (why : LineCause)
+pub cert_bad_at : {C B : Type 0} (rules : Rules C) (StandsFor : B → List Event → Type 0) (feed : Option Reading)
+    (certs : Option TextLines) (before : Told) (run : CheckRun B) (between now : Slot → Told) (rest : Option TextLines)
+    (exit : Exit) (why : LineCause)
     → IsUnderWay rules StandsFor feed certs before run between rest → now Out ≡ between Out → exit ≡ BadCerts (answered_lines run + 1) why → IfSome rest (λ r. r ≡ ended (ending_for why))
     → HasEnded rules feed certs before (now Out) exit
 cert_bad_at rules StandsFor feed certs before run between now rest exit why way same is bad =

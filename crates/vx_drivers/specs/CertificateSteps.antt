@@ -1,6 +1,7 @@
 -- The steps of a run that answers certificates.
-use Rattle.std.specs.Prelude.{◌≡◌, ◌⊎◌, ℕ, ◌+◌, ◌-◌, ◌==◌, ◌≤◌, Bool, true, false, List, [], ◌∷◌, ◌++◌, length, Option, Some, None, IfSome, Result, Ok, Err, if◌then◌else◌}
+use Rattle.std.specs.Prelude.{◌≡◌, ◌⊎◌, ℕ, ◌+◌, ◌-◌, ◌==◌, ◌≤◌, Bool, true, false, List, [], ◌∷◌, ◌++◌, length, Option, Some, None, IfOk, IfSome, Result, Ok, Err, if◌then◌else◌}
 use Rattle.std.specs.Option.{option_map}
+use Rattle.vx_num.specs.declared.fault.NoMemory.{NoMemory}
 use Rattle.vx_lines.specs.TextLines.{TextLines, at_end, at_most, ended, lines_then}
 use Rattle.vx_desk.specs.declared.device.Slot.{Slot}
 use Rattle.vx_desk.specs.declared.device.Slot.TheVariants.{Side, Out}
@@ -9,6 +10,7 @@ use Rattle.vx_desk.specs.Lines.{ReaderState}
 use Rattle.vx_desk.specs.Coming.{coming}
 use Rattle.vx_feed.specs.declared.events.Event.{Event}
 use Rattle.vx_feed.specs.Feed.{Reading}
+use Rattle.vx_feed.specs.Order.{AreLawful}
 use Rattle.vx_reading.specs.declared.stop.FeedCause.{FeedCause}
 use Rattle.vx_reading.specs.FeedReading.{IsAt, feed_told}
 use Rattle.vx_reading.specs.Stops.{bad_cause}
@@ -30,6 +32,13 @@ certs_told told = option_map certificates_of (told Side).left
 abbrev pub read_as : {C : Type 0} → Option C → Text → Result C Text
 read_as (Some c) word = Ok c
 read_as None word = Err word
+
+-- what has taken up the events up to the line that a certificate names, a lawful list, gives it this answer: whether it
+-- is yes, and its words
+abbrev pub JudgesBy : {C B : Type 0} → Rules C → (B → List Event → Type 0) → B → C → Text → Result Bool NoMemory → Type 0
+JudgesBy rules StandsFor book certificate words result =
+    (events : List Event) → StandsFor book events → AreLawful events → length events ≤ rules.named certificate
+    → IfOk result (λ holds. rules.Judges events certificate (answer_of holds words))
 
 -- how many lines a run has answered
 abbrev pub answered_lines : {B : Type 0} → CheckRun B → ℕ
@@ -75,6 +84,16 @@ abbrev pub ComesOf : {C B : Type 0} → Rules C → (B → List Event → Type 0
 ComesOf rules StandsFor feed stand line words run told (Ok holds) = IsAnswered rules StandsFor feed stand line (answer_of holds words) run told
 ComesOf rules StandsFor feed stand line words run told (Err exit) = EndsBefore rules feed stand line exit
 
+-- what comes of a line that a run reads
+abbrev pub ComesOfLine : {C B : Type 0} → Rules C → (B → List Event → Type 0) → List ℕ → CheckRun B → (Slot → Told) → CheckRun B → (Slot → Told) → Result Bool Exit → Type 0
+ComesOfLine rules StandsFor line old before new after result =
+    (feed : Option Reading) (stand : Stand) → Between StandsFor feed stand old before
+    → ComesOf rules StandsFor feed stand line new.words.items new after result
+
+-- the output line of the next answer, of which the words are in hand
+abbrev pub next_line : {B : Type 0} → CheckRun B → Bool → Text
+next_line run holds = answer_text (answered_lines run + 1) (answer_of holds run.words.items)
+
 -- the line of the answer that comes next
 abbrev pub next_text : Stand → Answer → Text
 next_text stand answer = answer_text (length stand.answers + 1) answer
@@ -102,6 +121,12 @@ EndsAtLine rules feed stand line before after exit =
 abbrev pub AnswersLine : {C B : Type 0} → Rules C → (B → List Event → Type 0) → Option Reading → Stand → List ℕ → CheckRun B → (Slot → Told) → (Slot → Told) → Result Unit Exit → Type 0
 AnswersLine rules StandsFor feed stand line run before after (Ok _) = SendsAnswer rules StandsFor feed stand line run before after
 AnswersLine rules StandsFor feed stand line run before after (Err exit) = EndsAtLine rules feed stand line before after exit
+
+-- a line that a run reads is answered
+abbrev pub AnswersNext : {C B : Type 0} → Rules C → (B → List Event → Type 0) → List ℕ → CheckRun B → (Slot → Told) → CheckRun B → (Slot → Told) → Result Unit Exit → Type 0
+AnswersNext rules StandsFor line old before new after result =
+    (feed : Option Reading) (stand : Stand) → Between StandsFor feed stand old before
+    → AnswersLine rules StandsFor feed stand line new before after result
 
 -- ---- from the start of the run
 
@@ -157,21 +182,24 @@ pub record IsNew {B : Type 0} (StandsFor : B → List Event → Type 0) (run : C
   pub yes : run.yes ≡ 0
   pub no : run.no ≡ 0
 
--- a run that may go on
-abbrev pub MayGoOn : {C B : Type 0} → Rules C → (B → List Event → Type 0) → CheckRun B → (Slot → Told) → Option TextLines → Type 0
-MayGoOn rules StandsFor run told rest =
-    (feed : Option Reading) × (certs : Option TextLines) × (before : Told) × IsUnderWay rules StandsFor feed certs before run told rest
+-- a run that may go on over the lines that are to come to a reader of certificates
+abbrev pub MayGoOn : {C B : Type 0} → Rules C → (B → List Event → Type 0) → CheckRun B → ReaderState → (Slot → Told) → Type 0
+MayGoOn rules StandsFor run reader told =
+    (feed : Option Reading) × (certs : Option TextLines) × (before : Told)
+    × IsUnderWay rules StandsFor feed certs before run told (allowed (answered_lines run) reader told)
 
 -- the next line is answered
-abbrev pub GoesOneOn : {C B : Type 0} → Rules C → (B → List Event → Type 0) → CheckRun B → (Slot → Told) → Option TextLines → CheckRun B → (Slot → Told) → Option TextLines → Result Bool Exit → Type 0
-GoesOneOn rules StandsFor old told rest new now more result =
-    (feed : Option Reading) (certs : Option TextLines) (before : Told) → IsUnderWay rules StandsFor feed certs before old told rest
-    → GoesOn rules StandsFor feed certs before new now more result
+abbrev pub GoesOneOn : {C B : Type 0} → Rules C → (B → List Event → Type 0) → CheckRun B → ReaderState → (Slot → Told) → CheckRun B → ReaderState → (Slot → Told) → Result Bool Exit → Type 0
+GoesOneOn rules StandsFor old reader told new next now result =
+    (feed : Option Reading) (certs : Option TextLines) (before : Told)
+    → IsUnderWay rules StandsFor feed certs before old told (allowed (answered_lines old) reader told)
+    → GoesOn rules StandsFor feed certs before new now (allowed (answered_lines new) next now) result
 
 -- all lines are answered
-abbrev pub GoesToEnd : {C B : Type 0} → Rules C → (B → List Event → Type 0) → CheckRun B → (Slot → Told) → Option TextLines → CheckRun B → (Slot → Told) → Result Unit Exit → Type 0
-GoesToEnd rules StandsFor old told rest new now result =
-    (feed : Option Reading) (certs : Option TextLines) (before : Told) → IsUnderWay rules StandsFor feed certs before old told rest
+abbrev pub GoesToEnd : {C B : Type 0} → Rules C → (B → List Event → Type 0) → CheckRun B → ReaderState → (Slot → Told) → CheckRun B → (Slot → Told) → Result Unit Exit → Type 0
+GoesToEnd rules StandsFor old reader told new now result =
+    (feed : Option Reading) (certs : Option TextLines) (before : Told)
+    → IsUnderWay rules StandsFor feed certs before old told (allowed (answered_lines old) reader told)
     → AnswersAll rules StandsFor feed certs before new now result
 
 -- a run whose lines are all answered
@@ -184,3 +212,8 @@ abbrev pub EndsRun : {C B : Type 0} → Rules C → (B → List Event → Type 0
 EndsRun rules StandsFor run told now exit =
     (feed : Option Reading) (certs : Option TextLines) (before : Told) → IsThrough rules StandsFor feed certs before run told
     → HasEnded rules feed certs before (now Out) exit
+
+-- the run over a feed and a file of certificates ended, and sent what it gives
+abbrev pub EndsCertificates : {C : Type 0} → Rules C → (Slot → Told) → (Slot → Told) → Exit → Type 0
+EndsCertificates rules before after exit =
+    HasEnded rules (feed_told before) (certs_told before) (before Out) (after Out) exit

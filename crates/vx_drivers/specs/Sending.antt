@@ -33,3 +33,7 @@ SendsOr slot text before after (Err exit) = CutsOff slot text before after exit
 abbrev pub OpensOr : Slot → Text → Option (List ℕ) → Told → Told → Result Unit Exit → Type 0
 OpensOr slot name held before after (Ok _) = IsOpened slot name held before after
 OpensOr slot name held before after (Err exit) = (exit ≡ OpenFault slot) × SameContent before after
+
+-- the same of a desk, by what its names hold
+abbrev pub OpensSlot : Slot → Text → (List ℕ → Option (List ℕ)) → (Slot → Told) → (Slot → Told) → Result Unit Exit → Type 0
+OpensSlot slot name holds before after result = OpensOr slot name (holds name) (before slot) (after slot) result

@@ -1,11 +1,10 @@
 //! What answers the lines of a file of certificates.
 
-ghost use Rattle.std.specs.Prelude.{◌≡◌, ◌≤◌, ℕ, List, [], length, IfOk, Ok, Result};
+ghost use Rattle.std.specs.Prelude.{◌≡◌, ℕ, List, [], IfOk, Ok, Result};
 ghost use Rattle.vx_feed.specs.declared.events.Event.{Event};
-ghost use Rattle.vx_feed.specs.Order.{AreLawful};
-ghost use Rattle.vx_drivers.specs.Answers.{Answer, answer_of};
+ghost use Rattle.vx_drivers.specs.Answers.{Answer};
 ghost use Rattle.vx_drivers.specs.CertificateRun.{Rules};
-ghost use Rattle.vx_drivers.specs.CertificateSteps.{read_as};
+ghost use Rattle.vx_drivers.specs.CertificateSteps.{JudgesBy, read_as};
 ghost use Rattle.vx_drivers.specs.Sending.{Text};
 
 use vx_num::NoMemory;
@@ -42,11 +41,13 @@ pub trait AnswersCertificates: Drop {
     ) -> Result<bool, NoMemory>
         requires empty { words.old.items ≡ [] }
         requires read { (line : List ℕ) × rules.ReadsAs line (Ok certificate.now) }
-        ensures { (events : List Event) → Self.Book.StandsFor book.now events → AreLawful events → length events ≤ rules.named certificate.now → IfOk result (λ holds. rules.Judges events certificate.now (answer_of holds words.new.items)) };
+        ensures { JudgesBy rules Self.Book.StandsFor book.now certificate.now words.new.items result };
 
     /// A line is read as one thing at most.
-    ghost reads_one: { (line : List ℕ) (a b : Result Self.Certificate Text) → rules.ReadsAs line a → rules.ReadsAs line b → a ≡ b };
+    ghost reads_one: { (line : List ℕ) (a b : Result Self.Certificate Text)
+        → rules.ReadsAs line a → rules.ReadsAs line b → a ≡ b };
 
     /// A certificate has one answer at most.
-    ghost judges_one: { (events : List Event) (c : Self.Certificate) (a b : Answer) → rules.Judges events c a → rules.Judges events c b → a ≡ b };
+    ghost judges_one: { (events : List Event) (c : Self.Certificate) (a b : Answer)
+        → rules.Judges events c a → rules.Judges events c b → a ≡ b };
 }

@@ -3,9 +3,8 @@
 
 ghost use Rattle.std.specs.Prelude.{◌≡◌, ◌+◌, ◌≤◌, [], IsTrue, None};
 ghost use Rattle.vx_reading.specs.Failures.{IsStep};
-ghost use Rattle.vx_reading.specs.FeedReading.{feed_told};
 ghost use Rattle.vx_drivers.specs.CertificateSteps as steps;
-ghost use Rattle.vx_drivers.specs.CertificateSteps.{HasEnded, certs_told};
+ghost use Rattle.vx_drivers.specs.CertificateSteps.{EndsCertificates};
 ghost use Rattle.vx_drivers.specs.CertificateExits.{IsCertificateExit};
 ghost use Rattle.vx_drivers.specs.Exits.{exit_calls};
 
@@ -58,15 +57,14 @@ fn said_exit(count: u64) -> Exit
 }
 
 impl<B: TakesEvents> CheckRun<B> {
-    ghost use Rattle.std.specs.Prelude.{◌≡◌, ◌<◌, ◌+◌, ◌≤◌, ℕ, List, [], Option, IsTrue, OnOk, IfErr, IfOk, IfSome, Some};
-    ghost use Rattle.vx_desk.specs.Told.{ChangesOnly, Told};
+    ghost use Rattle.std.specs.Prelude.{◌≡◌, ◌<◌, ◌+◌, ◌≤◌, [], IsTrue, OnOk, IfErr, IfOk};
+    ghost use Rattle.vx_desk.specs.Told.{ChangesOnly};
     ghost use Rattle.vx_desk.specs.Coming.{IsReader};
-    ghost use Rattle.vx_feed.specs.Feed.{Reading};
     ghost use Rattle.vx_reading.specs.Failures.{IsStep};
-    ghost use Rattle.vx_drivers.specs.Answers.{answer_of, answer_text, one_no, one_yes};
-    ghost use Rattle.vx_drivers.specs.CertificateRun.{Stand};
+    ghost use Rattle.vx_drivers.specs.Answers.{answer_of, one_no, one_yes};
     ghost use Rattle.vx_drivers.specs.CertificateExits.{IsCertificateExit};
-    ghost use Rattle.vx_drivers.specs.CertificateSteps.{AnswersLine, Between, ComesOf, EndsRun, GoesOneOn, GoesToEnd, IsBetween, IsNew, MayEnd, MayGoOn, allowed, answered_lines};
+    ghost use Rattle.vx_drivers.specs.CertificateSteps.{AnswersNext, ComesOfLine, EndsRun, GoesOneOn, GoesToEnd};
+    ghost use Rattle.vx_drivers.specs.CertificateSteps.{IsBetween, IsNew, MayEnd, MayGoOn, answered_lines, next_line};
     ghost use Rattle.vx_drivers.specs.Exits.{calls_in, exit_calls};
 
     /// A run that has read nothing.
@@ -94,7 +92,8 @@ impl<B: TakesEvents> CheckRun<B> {
     ) -> Result<bool, Exit>
         requires between { IsBetween B.StandsFor self.old (D.told desk.old) }
         requires open { IsTrue (D.told desk.old Slot.Feed).is_open }
-        ensures comes { (feed : Option Reading) (stand : Stand) → Between B.StandsFor feed stand self.old (D.told desk.old) → ComesOf C.rules B.StandsFor feed stand line.now self.new.words.items self.new (D.told desk.new) result }
+        ensures comes { ComesOfLine C.rules B.StandsFor line.now
+            self.old (D.told desk.old) self.new (D.told desk.new) result }
         ensures kept { (self.new.yes ≡ self.old.yes) × (self.new.no ≡ self.old.no) }
         ensures exits { IfErr result IsCertificateExit }
         ensures step { IsStep (calls_in result) (D.told desk.old) (D.told desk.new) }
@@ -128,7 +127,7 @@ impl<B: TakesEvents> CheckRun<B> {
     /// Counts an answer whose words are in hand, and writes its line.
     fn write(&mut self, alloc: Global, yes: bool) -> Result<(), NoMemory>
         requires few { answered_lines self.old < CERT_LINES_MAX }
-        ensures line { OnOk result (self.new.line.items ≡ answer_text (answered_lines self.old + 1) (answer_of yes self.old.words.items)) }
+        ensures line { OnOk result (self.new.line.items ≡ next_line self.old yes) }
         ensures yes { self.new.yes ≡ self.old.yes + one_yes (answer_of yes self.old.words.items) }
         ensures no { self.new.no ≡ self.old.no + one_no (answer_of yes self.old.words.items) }
         ensures kept { (self.new.feed ≡ self.old.feed) × (self.new.reached ≡ self.old.reached) }
@@ -154,7 +153,8 @@ impl<B: TakesEvents> CheckRun<B> {
         requires few { answered_lines self.old < CERT_LINES_MAX }
         requires open { IsTrue (D.told desk.old Slot.Feed).is_open }
         requires out { IsTrue (D.told desk.old Slot.Out).is_open }
-        ensures answers { (feed : Option Reading) (stand : Stand) → Between B.StandsFor feed stand self.old (D.told desk.old) → AnswersLine C.rules B.StandsFor feed stand line.now self.new (D.told desk.old) (D.told desk.new) result }
+        ensures answers { AnswersNext C.rules B.StandsFor line.now
+            self.old (D.told desk.old) self.new (D.told desk.new) result }
         ensures lines { OnOk result (answered_lines self.new ≡ answered_lines self.old + 1) }
         ensures side { D.told desk.new Slot.Side ≡ D.told desk.old Slot.Side }
         ensures exits { IfErr result IsCertificateExit }
@@ -179,13 +179,14 @@ impl<B: TakesEvents> CheckRun<B> {
         desk: &mut D,
         certs: &mut LineReader,
     ) -> Result<bool, Exit>
-        requires way { MayGoOn C.rules B.StandsFor self.old (D.told desk.old) (allowed (answered_lines self.old) certs.old (D.told desk.old)) }
+        requires way { MayGoOn C.rules B.StandsFor self.old certs.old (D.told desk.old) }
         requires reader { IsReader Slot.Side CERT_LINE_LEN_MAX certs.old }
         requires few { answered_lines self.old ≤ CERT_LINES_MAX }
         requires feed { IsTrue (D.told desk.old Slot.Feed).is_open }
         requires side { IsTrue (D.told desk.old Slot.Side).is_open }
         requires out { IsTrue (D.told desk.old Slot.Out).is_open }
-        ensures goes { GoesOneOn C.rules B.StandsFor self.old (D.told desk.old) (allowed (answered_lines self.old) certs.old (D.told desk.old)) self.new (D.told desk.new) (allowed (answered_lines self.new) certs.new (D.told desk.new)) result }
+        ensures goes { GoesOneOn C.rules B.StandsFor self.old certs.old (D.told desk.old)
+            self.new certs.new (D.told desk.new) result }
         ensures reader { OnOk result (IsReader Slot.Side CERT_LINE_LEN_MAX certs.new) }
         ensures lines { IfOk result (λ more. IsTrue more → answered_lines self.new ≡ answered_lines self.old + 1) }
         ensures few { OnOk result (answered_lines self.new ≤ CERT_LINES_MAX) }
@@ -220,13 +221,14 @@ impl<B: TakesEvents> CheckRun<B> {
         desk: &mut D,
         certs: &mut LineReader,
     ) -> Result<(), Exit>
-        requires way { MayGoOn C.rules B.StandsFor self.old (D.told desk.old) (allowed (answered_lines self.old) certs.old (D.told desk.old)) }
+        requires way { MayGoOn C.rules B.StandsFor self.old certs.old (D.told desk.old) }
         requires reader { IsReader Slot.Side CERT_LINE_LEN_MAX certs.old }
         requires few { answered_lines self.old ≤ CERT_LINES_MAX }
         requires feed { IsTrue (D.told desk.old Slot.Feed).is_open }
         requires side { IsTrue (D.told desk.old Slot.Side).is_open }
         requires out { IsTrue (D.told desk.old Slot.Out).is_open }
-        ensures all { GoesToEnd C.rules B.StandsFor self.old (D.told desk.old) (allowed (answered_lines self.old) certs.old (D.told desk.old)) self.new (D.told desk.new) result }
+        ensures all { GoesToEnd C.rules B.StandsFor
+            self.old certs.old (D.told desk.old) self.new (D.told desk.new) result }
         ensures few { OnOk result (answered_lines self.new ≤ CERT_LINES_MAX) }
         ensures exits { IfErr result IsCertificateExit }
         ensures step { IsStep (calls_in result) (D.told desk.old) (D.told desk.new) }
@@ -281,7 +283,7 @@ pub fn answer_certificates<C: AnswersCertificates, D: Desk>(
     requires feed { IsTrue (D.told desk.old Slot.Feed).is_open }
     requires side { IsTrue (D.told desk.old Slot.Side).is_open }
     requires out { IsTrue (D.told desk.old Slot.Out).is_open }
-    ensures ends { HasEnded C.rules (feed_told (D.told desk.old)) (certs_told (D.told desk.old)) (D.told desk.old Slot.Out) (D.told desk.new Slot.Out) result }
+    ensures ends { EndsCertificates C.rules (D.told desk.old) (D.told desk.new) result }
     ensures exits { IsCertificateExit result }
     ensures step { IsStep (exit_calls result) (D.told desk.old) (D.told desk.new) }
 {

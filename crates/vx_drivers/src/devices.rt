@@ -5,7 +5,7 @@ ghost use Rattle.vx_desk.specs.Slots.{IsWriting};
 ghost use Rattle.vx_desk.specs.Told.{ChangesOnly, IsOpened, SameContent};
 ghost use Rattle.vx_reading.specs.Failures.{Failures, IsStep};
 ghost use Rattle.vx_drivers.specs.Exits.{calls_in};
-ghost use Rattle.vx_drivers.specs.Sending.{OpensOr, SendsOr};
+ghost use Rattle.vx_drivers.specs.Sending.{OpensSlot, SendsOr};
 
 use crate::exit::Exit;
 use vx_desk::{Desk, Slot, send};
@@ -13,7 +13,7 @@ use vx_desk::{Desk, Slot, send};
 /// Opens a slot with a name.
 pub fn open_slot<D: Desk>(desk: &mut D, slot: Slot, name: &str) -> Result<(), Exit>
     requires closed { (D.told desk.old slot).is_open ≡ false }
-    ensures opens { OpensOr slot name.now (D.holds desk.old name.now) (D.told desk.old slot) (D.told desk.new slot) result }
+    ensures opens { OpensSlot slot name.now (D.holds desk.old) (D.told desk.old) (D.told desk.new) result }
     ensures failures { Failures (calls_in result) (D.told desk.old) (D.told desk.new) }
     ensures others { ChangesOnly slot (D.told desk.old) (D.told desk.new) }
     ensures names { D.holds desk.new ≡ D.holds desk.old }

@@ -37,5 +37,6 @@ pub trait AnswersTicks: TakesEvents {
         ensures { GivesLast rules Self.StandsFor self.now certificate.new.items line.new.items result };
 
     /// An event is given one thing at most.
-    ghost gives_one: { (events : List Event) (a b : Option Answer) → rules.IsGiven events a → rules.IsGiven events b → a ≡ b };
+    ghost gives_one: { (events : List Event) (a b : Option Answer)
+        → rules.IsGiven events a → rules.IsGiven events b → a ≡ b };
 }

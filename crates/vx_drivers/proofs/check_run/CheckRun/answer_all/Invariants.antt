@@ -14,7 +14,7 @@ invariant-lines g l = record {
   way : (feed : Option Reading) (certs : Option TextLines) (before : Told)
       → IsUnderWay g.C.AnswersCertificates.rules g.B.TakesEvents.StandsFor feed certs before l.initial.self (g.D.Desk.told l.initial.desk) (allowed (answered_lines l.initial.self) l.initial.certs (g.D.Desk.told l.initial.desk))
       → IsUnderWay g.C.AnswersCertificates.rules g.B.TakesEvents.StandsFor feed certs before l.self (g.D.Desk.told l.desk) (allowed (answered_lines l.self) l.certs (g.D.Desk.told l.desk));
-  some : MayGoOn g.C.AnswersCertificates.rules g.B.TakesEvents.StandsFor l.self (g.D.Desk.told l.desk) (allowed (answered_lines l.self) l.certs (g.D.Desk.told l.desk));
+  some : MayGoOn g.C.AnswersCertificates.rules g.B.TakesEvents.StandsFor l.self l.certs (g.D.Desk.told l.desk);
   reader : IsReader Side CERT_LINE_LEN_MAX l.certs;
   few : answered_lines l.self ≤ CERT_LINES_MAX;
   feed : IsTrue (g.D.Desk.told l.desk Feed).is_open;
