@@ -1,14 +1,13 @@
 -- The exits of a run.
-use Rattle.std.proofs.Common.{◌≡◌, ◌≢◌, ap, refl, true, ◌≤◌, Option, Err}
+use Rattle.std.proofs.Common.{◌≡◌, ◌≢◌, ap, refl, false, true}
 use Rattle.vx_desk.specs.declared.device.Slot.{Slot}
 use Rattle.vx_desk.specs.declared.device.Slot.TheVariants.{Feed, Side, Out, Certs}
-use Rattle.vx_reading.specs.Failures.{Calls}
 use Rattle.vx_reading.specs.Stops.{stop_calls}
 use Rattle.vx_reading.specs.declared.stop.FeedStop.{FeedStop}
 use Rattle.vx_reading.specs.declared.stop.FeedStop.TheVariants as stop
 use Rattle.vx_drivers.specs.declared.exit.Exit.{Exit}
 use Rattle.vx_drivers.specs.declared.exit.Exit.TheVariants.{WriteFault}
-use Rattle.vx_drivers.specs.Exits.{exit_calls, exit_of_stop, is_cut}
+use Rattle.vx_drivers.specs.Exits.{exit_calls, exit_of_stop, is_cut, is_write_fault}
 
 -- the stop of a feed and its exit name the same failed calls
 pub stop_named : (why : FeedStop) → exit_calls (exit_of_stop why) ≡ stop_calls why
@@ -19,6 +18,10 @@ stop_named stop.NoMemory = refl
 -- a failed write cuts a run off
 pub write_cuts : (slot : Slot) (exit : Exit) → exit ≡ WriteFault slot → is_cut exit ≡ true
 write_cuts slot exit is = ap is_cut is
+
+-- and is one of a failed write
+pub write_is_fault : {P : Type 0} (slot : Slot) (exit : Exit) → exit ≡ WriteFault slot → is_write_fault exit ≡ false → P
+write_is_fault slot exit is not = absurd (let no : ⊥ = let fault : is_write_fault exit ≡ true = ap is_write_fault is in cc in no)
 
 pub out_not_feed : Out ≢ Feed
 out_not_feed e = cc

@@ -1,5 +1,5 @@
 -- A run that answers certificates, from its start to its end.
-use Rattle.std.proofs.Common.{◌≡◌, ◌∙◌, sym, ap, subst, refl, ℕ, ◌+◌, ◌-◌, ◌<◌, ◌≤◌, ◌⊎◌, inl, inr, Bool, true, false, List, [], ◌∷◌, ◌++◌, length, take, drop, Option, Some, None, IfSome, arith, Result, Ok, Err, append_assoc, append-nil}
+use Rattle.std.proofs.Common.{◌≡◌, ◌∙◌, sym, ap, subst, refl, ℕ, ◌+◌, ◌-◌, ◌<◌, ◌≤◌, inl, inr, Bool, true, false, List, [], ◌∷◌, ◌++◌, length, take, drop, Option, Some, None, IfSome, arith, Ok, Err, append_assoc, append-nil}
 use Rattle.std.specs.Prelude.{◌==◌, if◌then◌else◌}
 use Rattle.std.specs.Option.{option_map}
 use Rattle.std.specs.Io.KnownBytes.{prepend_known}
@@ -18,28 +18,26 @@ use Rattle.vx_desk.specs.Lines.{ReaderState, to_come}
 use Rattle.vx_desk.specs.Told.{Told}
 use Rattle.vx_feed.specs.declared.events.Event.{Event}
 use Rattle.vx_feed.specs.Feed.{Reading, stopped_at}
-use Rattle.vx_reading.specs.declared.stop.FeedCause.{FeedCause}
 use Rattle.vx_reading.specs.declared.stop.FeedStop.{FeedStop}
 use Rattle.vx_reading.specs.declared.stop.FeedStop.TheVariants as stop
 use Rattle.vx_reading.specs.declared.feed.FeedReader.{FeedReader}
-use Rattle.vx_reading.specs.FeedReading.{IsAt, ReadsAll, Says, all_good, feed_told}
+use Rattle.vx_reading.specs.FeedReading.{ReadsAll, all_good, feed_told}
 use Rattle.vx_reading.specs.Stops.{bad_cause}
 use Rattle.vx_reading.proofs.FeedLemmas.{at_kept}
 use Rattle.vx_drivers.specs.declared.check_run.CheckRun.{CheckRun}
 use Rattle.vx_drivers.specs.declared.exit.Exit.{Exit}
-use Rattle.vx_drivers.specs.declared.exit.Exit.TheVariants.{Done, SaidNo, BadFeed, BadCerts, NoMemory}
+use Rattle.vx_drivers.specs.declared.exit.Exit.TheVariants.{Done, SaidNo, BadFeed, BadCerts, WriteFault}
 use Rattle.vx_drivers.specs.declared.exit.LineCause.{LineCause}
-use Rattle.vx_drivers.specs.declared.exit.LineCause.TheVariants as line
 use Rattle.vx_drivers.specs.declared.limits.TheConstants.{CERT_LINES_MAX, CERT_LINE_LEN_MAX}
 use Rattle.vx_drivers.specs.Along.{Along}
 use Rattle.vx_drivers.specs.Answers.{Answer, answers_text, count_no, count_yes, end_line, end_text}
-use Rattle.vx_drivers.specs.CertificateExits.{IsCertificateExit}
-use Rattle.vx_drivers.specs.CertificateRun.{AllAnswered, Answers, Gives, GivesPart, Rules, Runs, RunsBy, RunsIf, Stand, StandsBefore, Stops, StopsAt, answered, ending_for, start}
-use Rattle.vx_drivers.specs.CertificateSteps.{Between, CutsAnswer, EndsAtLine, EndsBefore, EndsForFeed, HasEnded, IfBoth, IsNew, IsThrough, IsUnderWay, SendsAnswer, allowed, answered_lines, certs_told, next_text, said_exit}
-use Rattle.vx_drivers.specs.Exits.{exit_of_stop, is_cut}
+use Rattle.vx_drivers.specs.CertificateRun.{AllAnswered, Answers, GivesAnswers, GivesPart, Rules, RunsBy, RunsIf, Stand, StandsBefore, Stops, StopsAt, answered, ending_for, start}
+use Rattle.vx_drivers.specs.CertificateSteps.{EndsAtLine, EndsForFeed, HasEnded, IfBoth, IsNew, IsThrough, IsUnderWay, SendsAnswer, allowed, answered_lines, certs_told, next_text, said_exit}
+use Rattle.vx_drivers.specs.Exits.{exit_of_stop, is_cut, is_write_fault}
 use Rattle.vx_drivers.specs.Sending.{CutsOff, Sent, Text}
 use Rattle.vx_drivers.proofs.AlongLemmas.{along_more}
 use Rattle.vx_drivers.proofs.CertificateLemmas.{count_both, text_more}
+use Rattle.vx_drivers.proofs.ExitLemmas.{write_cuts, write_is_fault}
 use Rattle.vx_drivers.proofs.SendingLemmas.{sent_more, sent_none, sent_still}
 
 same_Some : {A : Type 0} {a b : A} → Some a ≡ Some b → a ≡ b
@@ -90,8 +88,19 @@ module _ {C : Type 0} (rules : Rules C) where
     };
   }
 
-  cut_by : (f : Reading) (c : TextLines) (text : Text) (exit : Exit) → is_cut exit ≡ true → GivesPart rules f c text → RunsBy rules f c text exit
-  cut_by f c text exit cut part = subst (λ b. RunsIf rules f c text exit b) (sym cut) part
+  cut_by : (f : Reading) (c : TextLines) (text : Text) (exit : Exit) → is_cut exit ≡ true → GivesPart rules f c text
+      → (is_write_fault exit ≡ false → GivesAnswers rules f c text) → RunsBy rules f c text exit
+  cut_by f c text exit cut part whole = subst (λ b. RunsIf rules f c text exit b) (sym cut) (record { part = part; whole = whole })
+
+  -- whole answers were sent
+  cut_between : (f : Reading) (c : TextLines) (stand : Stand) (r : TextLines) (exit : Exit) → is_cut exit ≡ true → StandsBefore rules f c stand r
+      → RunsBy rules f c (answers_text stand.answers) exit
+  cut_between f c stand r exit cut h =
+      cut_by f c (answers_text stand.answers) exit cut (gives_answers f c stand r h) (λ not. record { stand = stand; rest = r; before = h; text_is = refl })
+
+  -- a write of the output failed inside a text
+  cut_inside : (f : Reading) (c : TextLines) (text : Text) (exit : Exit) → exit ≡ WriteFault Out → GivesPart rules f c text → RunsBy rules f c text exit
+  cut_inside f c text exit is part = cut_by f c text exit (write_cuts Out exit is) part (write_is_fault Out exit is)
 
   -- what is told of both inputs says where the run stands
   if_both : (feed : Option Reading) (certs rest : Option TextLines) (stand : Stand) (lines : List (List ℕ)) (P : Reading → TextLines → Type 0)
@@ -146,7 +155,7 @@ module _ {C : Type 0} (rules : Rules C) where
     pub cut_short : (run : CheckRun B) (between now : Slot → Told) (rest : Option TextLines) (exit : Exit) → IsUnderWay rules StandsFor feed certs before run between rest → now Out ≡ between Out → is_cut exit ≡ true
         → HasEnded rules feed certs before (now Out) exit
     cut_short run between now rest exit way same cut =
-        nothing_more run between now rest exit way same (λ f c r is_feed is_rest h. cut_by f c (answers_text way.stand.answers) exit cut (gives_answers f c way.stand r h))
+        nothing_more run between now rest exit way same (λ f c r is_feed is_rest h. cut_between f c way.stand r exit cut h)
 
     -- a line of the certificates is bad
     pub cert_bad : (run : CheckRun B) (between now : Slot → Told) (rest : Option TextLines) (number : ℕ) (why : LineCause) (way : IsUnderWay rules StandsFor feed certs before run between rest) → now Out ≡ between Out
@@ -191,7 +200,7 @@ module _ {C : Type 0} (rules : Rules C) where
       sent = sent_more (answers_text way.stand.answers) (take h.cut.part.count (next_text way.stand h.answer)) before (between Out) (now Out) way.sent h.cut.part.sent;
       runs = if_both feed certs new (answered way.stand h.answer h.reached) (way.lines ++ text ∷ []) (λ f c. RunsBy rules f c (answers_text way.stand.answers ++ take h.cut.part.count (next_text way.stand h.answer)) exit)
           (first_more certs rest new way.lines text way.are_first is) (step_more feed way.lines text way.stand (answered way.stand h.answer h.reached) way.steps h.answers)
-          (λ f c r is_feed is_rest b. cut_by f c (answers_text way.stand.answers ++ take h.cut.part.count (next_text way.stand h.answer)) exit (ap is_cut h.cut.exit_is) (gives_cut f c way.stand h.answer h.reached r h.cut.part.count b));
+          (λ f c r is_feed is_rest b. cut_inside f c (answers_text way.stand.answers ++ take h.cut.part.count (next_text way.stand h.answer)) exit h.cut.exit_is (gives_cut f c way.stand h.answer h.reached r h.cut.part.count b));
     }
 
     -- ---- behind the last line
@@ -244,7 +253,7 @@ module _ {C : Type 0} (rules : Rules C) where
       sent = sent_more (answers_text way.stand.answers) (take cut.part.count (end_text way.stand.answers)) before (between Out) (now Out)
           (sent_still (answers_text way.stand.answers) before (first Out) (between Out) way.sent same) (subst (λ t. Sent (take cut.part.count t) (between Out) (now Out)) is cut.part.sent);
       runs = if_both feed certs rest way.stand way.lines (λ f c. RunsBy rules f c (answers_text way.stand.answers ++ take cut.part.count (end_text way.stand.answers)) exit) way.are_first way.steps
-          (λ f c r is_feed is_rest b. cut_by f c (answers_text way.stand.answers ++ take cut.part.count (end_text way.stand.answers)) exit (ap is_cut cut.exit_is) (gives_last f c way.stand r cut.part.count b (record {
+          (λ f c r is_feed is_rest b. cut_inside f c (answers_text way.stand.answers ++ take cut.part.count (end_text way.stand.answers)) exit cut.exit_is (gives_last f c way.stand r cut.part.count b (record {
             no_line = subst (λ o. IfSome o (λ t. t ≡ ended at_end)) is_rest none;
             no_bad = ap (λ (g : Reading). g.bad) (subst (λ o. IfSome o (λ g. g ≡ all_good reads.0)) is_feed reads.2);
           })));
@@ -282,7 +291,7 @@ module _ {C : Type 0} (rules : Rules C) where
   both_none : (feed : Option Reading) (certs : Option TextLines) (exit : Exit) → is_cut exit ≡ true → IfBoth feed certs (λ f c. RunsBy rules f c [] exit)
   both_none feed certs exit cut =
       if_both feed certs certs start [] (λ f c. RunsBy rules f c [] exit) (told_first certs) (steps_none feed)
-      (λ f c r is_feed is_rest h. cut_by f c [] exit cut (gives_answers f c start r h))
+      (λ f c r is_feed is_rest h. cut_between f c start r exit cut h)
 
   -- a run that is cut off before it reads
   pub never_started : (feed : Option Reading) (certs : Option TextLines) (before after : Told) (exit : Exit) → is_cut exit ≡ true → Sent [] before after → HasEnded rules feed certs before after exit

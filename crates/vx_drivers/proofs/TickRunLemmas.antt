@@ -1,28 +1,28 @@
 -- A run that answers ticks, from its start to its end.
-use Rattle.std.proofs.Common.{◌≡◌, ◌∙◌, sym, ap, subst, refl, ℕ, ◌+◌, ◌<◌, ◌≤◌, ◌⊎◌, inl, inr, Bool, true, false, List, [], ◌∷◌, ◌++◌, length, take, drop, map, Option, Some, None, IfSome, arith, Ok, Err}
-use Rattle.std.specs.List.{concat, sum_by}
+use Rattle.std.proofs.Common.{◌≡◌, ◌∙◌, sym, ap, subst, refl, ℕ, ◌⊎◌, inl, inr, true, false, List, [], ◌∷◌, ◌++◌, length, take, drop, map, Option, Some, None, IfSome, arith, Err}
+use Rattle.std.specs.List.{concat}
 use Rattle.std.specs.Option.{option_to_list}
 use Rattle.std.proofs.lemmas.List.{append-nil, append_assoc, take-append-drop}
 use Rattle.vx_desk.specs.declared.device.Slot.{Slot}
-use Rattle.vx_desk.specs.declared.device.Slot.TheVariants.{Feed, Out, Certs}
+use Rattle.vx_desk.specs.declared.device.Slot.TheVariants.{Out, Certs}
 use Rattle.vx_desk.specs.Told.{Told}
 use Rattle.vx_feed.specs.declared.events.Event.{Event}
 use Rattle.vx_feed.specs.Feed.{Reading, stopped_at}
 use Rattle.vx_reading.specs.declared.feed.FeedReader.{FeedReader}
-use Rattle.vx_reading.specs.declared.stop.FeedCause.{FeedCause}
 use Rattle.vx_reading.specs.declared.stop.FeedStop.{FeedStop}
 use Rattle.vx_reading.specs.declared.stop.FeedStop.TheVariants as stop
 use Rattle.vx_reading.specs.FeedReading.{IsAt, IsReadTo, ReadsNext, Says, all_good, feed_told}
 use Rattle.vx_reading.specs.Stops.{bad_cause}
 use Rattle.vx_reading.proofs.FeedLemmas.{read_so_many}
 use Rattle.vx_drivers.specs.declared.exit.Exit.{Exit}
-use Rattle.vx_drivers.specs.declared.exit.Exit.TheVariants.{Done, BadFeed, NoMemory}
+use Rattle.vx_drivers.specs.declared.exit.Exit.TheVariants.{Done, BadFeed, WriteFault}
 use Rattle.vx_drivers.specs.declared.tick_run.TickRun.{TickRun}
 use Rattle.vx_drivers.specs.Along.{Along}
-use Rattle.vx_drivers.specs.Exits.{exit_of_stop, is_cut}
+use Rattle.vx_drivers.specs.Exits.{exit_of_stop, is_cut, is_write_fault}
 use Rattle.vx_drivers.specs.Sending.{CutsOff, Sent, Text}
-use Rattle.vx_drivers.specs.TickRun.{AreWhole, GivesTickParts, RunsTicksBy, RunsTicksIf, TickRules, TickStand, TakesEvent, certificates_text, counts_text, lines_text, no_events, one_more}
+use Rattle.vx_drivers.specs.TickRun.{AreWhole, GivesTickAnswers, GivesTickParts, RunsTicksBy, RunsTicksIf, TickRules, TickStand, TakesEvent, certificates_text, counts_text, lines_text, no_events, one_more}
 use Rattle.vx_drivers.specs.TickSteps.{CutsTick, HasAnswered, HasEndedTicks, IsAtEvent, IsNewTicks, IsThroughTicks, SendsNothing, SendsTick}
+use Rattle.vx_drivers.proofs.ExitLemmas.{write_cuts, write_is_fault}
 use Rattle.vx_drivers.proofs.SendingLemmas.{sent_more, sent_none, sent_still}
 use Rattle.vx_drivers.proofs.TickLemmas.{counted_same, steps_more, text_last, texts_more}
 
@@ -110,6 +110,12 @@ module _ {A : Type 0} (rules : TickRules A) where
     whole = whole_all stand.answers (lines_text rules stand.answers);
   }
 
+  gives_alone : (over : Reading) (stand : TickStand A) (rest : List Event) → over.events ≡ stand.events ++ rest
+      → Along (TakesEvent rules) no_events stand.events stand
+      → GivesTickAnswers rules over (lines_text rules stand.answers) (certificates_text rules stand.answers)
+  gives_alone over stand rest first steps =
+      record { stand = stand; steps = steps; rest = rest; are_first = first; out_is = refl; certs_are = refl }
+
   -- a part of the certificate
   gives_certificate : (over : Reading) (old : TickStand A) (event : Event) (answer : A) (rest : List Event) (n : ℕ)
       → over.events ≡ (old.events ++ event ∷ []) ++ rest
@@ -186,8 +192,23 @@ module _ {A : Type 0} (rules : TickRules A) where
   }
 
   cut_by : (over : Reading) (out certs : Text) (exit : Exit) → is_cut exit ≡ true → GivesTickParts rules over out certs
-      → RunsTicksBy rules over exit out certs
-  cut_by over out certs exit cut parts = subst (λ b. RunsTicksIf rules over exit out certs b) (sym cut) parts
+      → (is_write_fault exit ≡ false → GivesTickAnswers rules over out certs) → RunsTicksBy rules over exit out certs
+  cut_by over out certs exit cut parts whole =
+      subst (λ b. RunsTicksIf rules over exit out certs b) (sym cut) (record { parts = parts; whole = whole })
+
+  -- whole answers were sent
+  cut_between : (over : Reading) (stand : TickStand A) (rest : List Event) (exit : Exit) → is_cut exit ≡ true
+      → over.events ≡ stand.events ++ rest → Along (TakesEvent rules) no_events stand.events stand
+      → RunsTicksBy rules over exit (lines_text rules stand.answers) (certificates_text rules stand.answers)
+  cut_between over stand rest exit cut first steps =
+      cut_by over (lines_text rules stand.answers) (certificates_text rules stand.answers) exit cut
+      (gives_whole over stand rest first steps) (λ not. gives_alone over stand rest first steps)
+
+  -- a write failed inside a text
+  cut_inside : (over : Reading) (out certs : Text) (slot : Slot) (exit : Exit) → exit ≡ WriteFault slot
+      → GivesTickParts rules over out certs → RunsTicksBy rules over exit out certs
+  cut_inside over out certs slot exit is parts =
+      cut_by over out certs exit (write_cuts slot exit is) parts (write_is_fault slot exit is)
 
   -- a run that is cut off before it reads
   pub never_started : (feed : Option Reading) (told : Slot → Told) (exit : Exit) → is_cut exit ≡ true
@@ -199,7 +220,7 @@ module _ {A : Type 0} (rules : TickRules A) where
         feed_is = first.feed_is;
         out = [];
         certs = [];
-        runs = cut_by first.over [] [] exit cut (gives_whole first.over no_events first.rest first.are_first refl);
+        runs = cut_between first.over no_events first.rest exit cut first.are_first refl;
         out_sent = sent_none (told Out) (told Out) refl;
         certs_sent = sent_none (told Certs) (told Certs) refl;
       }
@@ -286,9 +307,7 @@ module _ {A : Type 0} (rules : TickRules A) where
             feed_is = first.feed_is;
             out = lines_text rules way.stand.answers;
             certs = certificates_text rules way.stand.answers;
-            runs = cut_by first.over (lines_text rules way.stand.answers) (certificates_text rules way.stand.answers)
-                exit cut
-                (gives_whole first.over way.stand first.rest first.are_first way.between.steps);
+            runs = cut_between first.over way.stand first.rest exit cut first.are_first way.between.steps;
             out_sent = still rules.line way.stand.answers Out between now way.out out_same;
             certs_sent = still rules.certificate way.stand.answers Certs between now way.certs certs_same;
           }
@@ -349,9 +368,9 @@ module _ {A : Type 0} (rules : TickRules A) where
             feed_is = first.feed_is;
             out = lines_text rules way.stand.answers;
             certs = certificates_text rules way.stand.answers ++ take cut.part.count (rules.certificate cuts.answer);
-            runs = cut_by first.over (lines_text rules way.stand.answers)
-                (certificates_text rules way.stand.answers ++ take cut.part.count (rules.certificate cuts.answer)) exit
-                (ap is_cut cut.exit_is)
+            runs = cut_inside first.over (lines_text rules way.stand.answers)
+                (certificates_text rules way.stand.answers ++ take cut.part.count (rules.certificate cuts.answer)) Certs exit
+                cut.exit_is
                 (gives_certificate first.over way.stand event cuts.answer first.rest cut.part.count first.are_first steps);
             out_sent = still rules.line way.stand.answers Out between now way.out (same ∙ out_same);
             certs_sent = more rules.certificate way.stand.answers (take cut.part.count (rules.certificate cuts.answer))
@@ -362,8 +381,8 @@ module _ {A : Type 0} (rules : TickRules A) where
             feed_is = first.feed_is;
             out = lines_text rules way.stand.answers ++ take cut.part.count (rules.line cuts.answer);
             certs = certificates_text rules (way.stand.answers ++ cuts.answer ∷ []);
-            runs = cut_by first.over (lines_text rules way.stand.answers ++ take cut.part.count (rules.line cuts.answer))
-                (certificates_text rules (way.stand.answers ++ cuts.answer ∷ [])) exit (ap is_cut cut.exit_is)
+            runs = cut_inside first.over (lines_text rules way.stand.answers ++ take cut.part.count (rules.line cuts.answer))
+                (certificates_text rules (way.stand.answers ++ cuts.answer ∷ [])) Out exit cut.exit_is
                 (gives_line first.over way.stand event cuts.answer first.rest cut.part.count first.are_first steps);
             out_sent = more rules.line way.stand.answers (take cut.part.count (rules.line cuts.answer))
                 Out between read now way.out out_same cut.part.sent;
@@ -428,8 +447,8 @@ module _ {A : Type 0} (rules : TickRules A) where
             feed_is = through.says;
             out = lines_text rules way.stand.answers ++ part;
             certs = certificates_text rules way.stand.answers;
-            runs = cut_by (all_good way.stand.events) (lines_text rules way.stand.answers ++ part)
-                (certificates_text rules way.stand.answers) exit (ap is_cut cut.exit_is)
+            runs = cut_inside (all_good way.stand.events) (lines_text rules way.stand.answers ++ part)
+                (certificates_text rules way.stand.answers) Out exit cut.exit_is
                 (gives_last way.stand cut.part.count way.between.steps);
             out_sent = more rules.line way.stand.answers part Out between between now way.out refl
                 (subst (λ t. Sent (take cut.part.count t) (between Out) (now Out)) is cut.part.sent);

@@ -1,5 +1,5 @@
 -- A run that answers the lines of a file of certificates over a feed: one step a line, in their order.
-use Rattle.std.specs.Prelude.{◌≡◌, ◌⊎◌, ℕ, ◌+◌, ◌≤◌, Bool, true, false, nat_lt, List, [], ◌∷◌, ◌++◌, length, take, codes, Option, Some, None, Result, Ok, Err}
+use Rattle.std.specs.Prelude.{◌≡◌, ◌⊎◌, ℕ, ◌+◌, ◌≤◌, Bool, true, false, nat_lt, List, [], ◌∷◌, ◌++◌, length, take, codes, Some, None, Result, Ok, Err}
 use Rattle.vx_lines.specs.TextLines.{Ending, TextLines, at_end, too_long, no_eol, too_many, ended, at_most, lines_of, lines_then}
 use Rattle.vx_feed.specs.declared.events.Event.{Event}
 use Rattle.vx_feed.specs.Feed.{Reading}
@@ -12,7 +12,7 @@ use Rattle.vx_drivers.specs.declared.exit.LineCause.TheVariants as line
 use Rattle.vx_drivers.specs.declared.limits.TheConstants.{CERT_LINES_MAX, CERT_LINE_LEN_MAX}
 use Rattle.vx_drivers.specs.Along.{Along}
 use Rattle.vx_drivers.specs.Answers.{Answer, said_no, count_no, answers_text, end_text}
-use Rattle.vx_drivers.specs.Exits.{is_cut}
+use Rattle.vx_drivers.specs.Exits.{is_cut, is_write_fault}
 use Rattle.vx_drivers.specs.Sending.{Text}
 
 -- what a command makes of certificates: what a line is read as, a certificate or the word for why it is none; the
@@ -129,9 +129,22 @@ pub record GivesPart {C : Type 0} (rules : Rules C) (feed : Reading) (certs : Te
   pub more : Text
   pub gives : Gives rules feed certs (part ++ more)
 
--- what a run sends, by its exit: after a failed call or for want of memory a first part of the text
+-- what first lines of the certificates give in answers alone
+pub record GivesAnswers {C : Type 0} (rules : Rules C) (feed : Reading) (certs : TextLines) (text : Text) : Type 0 where
+  pub stand : Stand
+  pub rest : TextLines
+  pub before : StandsBefore rules feed certs stand rest
+  pub text_is : text ≡ answers_text stand.answers
+
+-- what a run sends that is cut off: a first part of the text, and whole answers alone where no write failed
+pub record CutsRun {C : Type 0} (rules : Rules C) (feed : Reading) (certs : TextLines) (text : Text) (exit : Exit) : Type 0 where
+  pub part : GivesPart rules feed certs text
+  pub whole : is_write_fault exit ≡ false → GivesAnswers rules feed certs text
+
+-- what a run sends, by its exit: all that it gives, or what it sends that is cut off by a failed call or for want of
+-- memory
 abbrev pub RunsIf : {C : Type 0} → Rules C → Reading → TextLines → Text → Exit → Bool → Type 0
-RunsIf rules feed certs text exit true = GivesPart rules feed certs text
+RunsIf rules feed certs text exit true = CutsRun rules feed certs text exit
 RunsIf rules feed certs text exit false = Runs rules feed certs exit text
 
 abbrev pub RunsBy : {C : Type 0} → Rules C → Reading → TextLines → Text → Exit → Type 0

@@ -1,5 +1,5 @@
 -- What a run ends in.
-use Rattle.std.specs.Prelude.{ℕ, ◌≤◌, Bool, true, false, Option, Some, None, Result, Ok, Err}
+use Rattle.std.specs.Prelude.{ℕ, Bool, true, false, Option, Some, None, Result, Ok, Err}
 use Rattle.vx_desk.specs.declared.device.Slot.TheVariants as slot
 use Rattle.vx_settle.specs.declared.fault.PositionFault.TheVariants as position
 use Rattle.vx_reading.specs.declared.stop.FeedStop.{FeedStop}
@@ -54,3 +54,8 @@ is_cut (ReadFault slot) = true
 is_cut (WriteFault slot) = true
 is_cut NoMemory = true
 is_cut _ = false
+
+-- a write failed, so that a part of a text may have been sent
+abbrev pub is_write_fault : Exit → Bool
+is_write_fault (WriteFault slot) = true
+is_write_fault _ = false

@@ -13,7 +13,7 @@ use Rattle.vx_drivers.specs.declared.exit.Exit.TheVariants.{Done, BadFeed}
 use Rattle.vx_drivers.specs.declared.ticks.Tally.{Tally}
 use Rattle.vx_drivers.specs.Along.{Along}
 use Rattle.vx_drivers.specs.Answers.{line_start}
-use Rattle.vx_drivers.specs.Exits.{is_cut}
+use Rattle.vx_drivers.specs.Exits.{is_cut, is_write_fault}
 use Rattle.vx_drivers.specs.Sending.{Text}
 
 -- what a command makes of the events of a feed: what the last of some events is given, an answer, or nothing where it is
@@ -122,9 +122,24 @@ pub record GivesTickParts {A : Type 0} (rules : TickRules A) (feed : Reading) (o
   pub gives : GivesTicks rules feed (out ++ out_more) (certs ++ certs_more)
   pub whole : AreWhole rules gives.stand.answers out certs
 
--- what a run sends, by its exit: after a failed call or for want of memory first parts of the texts
+-- what first events of a feed give in answers alone, each with its certificate
+pub record GivesTickAnswers {A : Type 0} (rules : TickRules A) (feed : Reading) (out certs : Text) : Type 0 where
+  pub stand : TickStand A
+  pub steps : Along (TakesEvent rules) no_events stand.events stand
+  pub rest : List Event
+  pub are_first : feed.events ≡ stand.events ++ rest
+  pub out_is : out ≡ lines_text rules stand.answers
+  pub certs_are : certs ≡ certificates_text rules stand.answers
+
+-- what a run sends that is cut off: first parts of the texts, and whole answers alone where no write failed
+pub record CutsTicks {A : Type 0} (rules : TickRules A) (feed : Reading) (exit : Exit) (out certs : Text) : Type 0 where
+  pub parts : GivesTickParts rules feed out certs
+  pub whole : is_write_fault exit ≡ false → GivesTickAnswers rules feed out certs
+
+-- what a run sends, by its exit: all that it gives, or what it sends that is cut off by a failed call or for want of
+-- memory
 abbrev pub RunsTicksIf : {A : Type 0} → TickRules A → Reading → Exit → Text → Text → Bool → Type 0
-RunsTicksIf rules feed exit out certs true = GivesTickParts rules feed out certs
+RunsTicksIf rules feed exit out certs true = CutsTicks rules feed exit out certs
 RunsTicksIf rules feed exit out certs false = RunsTicks rules feed exit out certs
 
 abbrev pub RunsTicksBy : {A : Type 0} → TickRules A → Reading → Exit → Text → Text → Type 0
