@@ -1,10 +1,10 @@
 -- One line of the certificates.
-use Rattle.std.proofs.Common.{◌≡◌, ◌≢◌, ◌∙◌, sym, ap, subst, refl, ℕ, ◌+◌, ◌<◌, ◌≤◌, ◌⊎◌, inl, inr, Bool, true, false, List, [], ◌∷◌, ◌++◌, length, take, Option, Some, None, IfSome, arith, Result, Ok, Err, append_assoc, append-nil}
+use Rattle.std.proofs.Common.{◌≡◌, ◌∙◌, sym, ap, subst, refl, ℕ, ◌+◌, ◌<◌, ◌≤◌, inl, inr, Bool, true, false, List, [], ◌∷◌, ◌++◌, length, take, Option, Some, None, IfSome, arith, Result, Ok, Err, append_assoc, append-nil}
 use Rattle.std.specs.Prelude.{nat_le, nat_lt, codes}
 use Rattle.std.specs.Option.{option_map_or}
 use Rattle.std.proofs.lemmas.Bool.Decides.{nat_tests}
 use Rattle.vx_desk.specs.declared.device.Slot.{Slot}
-use Rattle.vx_desk.specs.declared.device.Slot.TheVariants.{Feed, Out}
+use Rattle.vx_desk.specs.declared.device.Slot.TheVariants.{Out}
 use Rattle.vx_desk.specs.Told.{Told}
 use Rattle.vx_feed.specs.declared.events.Event.{Event}
 use Rattle.vx_feed.specs.Feed.{BadLine, Reading}
@@ -12,14 +12,14 @@ use Rattle.vx_reading.specs.declared.feed.FeedReader.{FeedReader}
 use Rattle.vx_reading.specs.declared.stop.FeedCause.{FeedCause}
 use Rattle.vx_reading.specs.declared.stop.FeedStop.{FeedStop}
 use Rattle.vx_reading.specs.declared.stop.FeedStop.TheVariants as stop
-use Rattle.vx_reading.specs.FeedReading.{IsAt, IsReadTo, NamesBad, ReadsTo, is_met}
+use Rattle.vx_reading.specs.FeedReading.{IsReadTo, NamesBad, ReadsTo, is_met}
 use Rattle.vx_reading.specs.Stops.{bad_cause}
 use Rattle.vx_drivers.specs.declared.check_run.CheckRun.{CheckRun}
 use Rattle.vx_drivers.specs.declared.exit.Exit.{Exit}
 use Rattle.vx_drivers.specs.Answers.{Answer, answers_from, answer_text, answers_text, count_no, count_yes, said_no, said_yes, one_no, one_yes}
 use Rattle.vx_drivers.specs.CertificateExits.{IsCertificateExit}
 use Rattle.vx_drivers.specs.CertificateRun.{Answers, AnswersCertificate, Rules, Stand, Stops, answered}
-use Rattle.vx_drivers.specs.CertificateSteps.{AnswersLine, Between, CutsAnswer, EndsAtLine, EndsBefore, EndsForFeed, SendsAnswer, next_text}
+use Rattle.vx_drivers.specs.CertificateSteps.{AnswersLine, Between, EndsBefore, next_text}
 use Rattle.vx_drivers.specs.Exits.{exit_of_stop}
 use Rattle.vx_drivers.specs.Sending.{Sent, SendsOr, Text}
 

@@ -1,5 +1,5 @@
 -- What reading of the certificates does to the desk.
-use Rattle.std.proofs.Common.{◌≡◌, ◌≢◌, ap, subst, Option, None}
+use Rattle.std.proofs.Common.{◌≡◌, ◌≢◌, ap, subst, None}
 use Rattle.vx_desk.specs.Told.{ChangesOnly, ChangesReads, Told}
 use Rattle.vx_desk.specs.declared.device.Slot.{Slot}
 use Rattle.vx_desk.specs.declared.device.Slot.TheVariants.{Feed, Side, Out, Certs}

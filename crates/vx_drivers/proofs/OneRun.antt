@@ -1,8 +1,8 @@
 -- A run over a feed and a file of certificates is one.
-use Rattle.std.proofs.Common.{◌≡◌, ◌∙◌, sym, ap, subst, refl, ℕ, ◌+◌, ◌≤◌, ◌⊎◌, inl, inr, Bool, true, false, List, [], ◌∷◌, ◌++◌, length, Option, Some, None, Result, Ok, Err, arith}
+use Rattle.std.proofs.Common.{◌≡◌, ◌∙◌, sym, ap, subst, refl, ℕ, ◌+◌, ◌≤◌, ◌⊎◌, inl, inr, Bool, true, false, List, [], ◌∷◌, ◌++◌, length, Option, Some, Result, Ok, Err, arith}
 use Rattle.std.specs.Prelude.{◌==◌, nat_lt, if◌then◌else◌}
 use Rattle.std.proofs.lemmas.Bool.Decides.{nat_tests}
-use Rattle.vx_lines.specs.TextLines.{Ending, TextLines, at_end, ended, lines_then, no_eol, too_long, too_many}
+use Rattle.vx_lines.specs.TextLines.{Ending, TextLines, at_end, ended, no_eol, too_long, too_many}
 use Rattle.vx_feed.specs.declared.events.Event.{Event}
 use Rattle.vx_feed.specs.Feed.{BadLine, Reading}
 use Rattle.vx_reading.specs.declared.stop.FeedCause.{FeedCause}
@@ -13,11 +13,10 @@ use Rattle.vx_drivers.specs.declared.exit.Exit.TheVariants.{Done, SaidNo, Usage,
 use Rattle.vx_drivers.specs.declared.exit.LineCause.{LineCause}
 use Rattle.vx_drivers.specs.declared.exit.LineCause.TheVariants as line
 use Rattle.vx_drivers.specs.Along.{Along}
-use Rattle.vx_drivers.specs.Answers.{Answer, answers_text, count_no, said_no}
+use Rattle.vx_drivers.specs.Answers.{Answer, answers_text, count_no}
 use Rattle.vx_drivers.specs.CertificateRun.{AllAnswered, Answers, AnswersCertificate, AnswersSaid, Ends, Rules, Runs, Stand, Stops, StopsAt, answered, ending_for, last_line, start}
 use Rattle.vx_drivers.specs.CertificateSteps.{said_exit}
 use Rattle.vx_drivers.specs.Sending.{Text}
-use Rattle.vx_drivers.proofs.AlongLemmas.{along_one}
 use Rattle.vx_drivers.proofs.CauseLemmas.{cause_one}
 
 -- ---- endings are told apart

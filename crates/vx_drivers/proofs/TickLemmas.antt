@@ -1,8 +1,7 @@
 -- One event of a run that answers ticks.
-use Rattle.std.proofs.Common.{◌≡◌, ◌∙◌, sym, ap, subst, refl, ℕ, ◌+◌, ◌*◌, ◌≤◌, ◌⊎◌, inl, inr, List, [], ◌∷◌, ◌++◌, length, map, Option, Some, None, arith, Result, Ok, Err}
+use Rattle.std.proofs.Common.{◌≡◌, ◌∙◌, sym, ap, subst, refl, ℕ, ◌+◌, ◌*◌, ◌≤◌, inr, List, [], ◌∷◌, ◌++◌, length, map, Option, Some, None, arith, Result, Ok, Err}
 use Rattle.std.specs.List.{concat, sum_by}
-use Rattle.std.specs.Option.{option_map_or, option_to_list}
-use Rattle.std.proofs.lemmas.List.{append-nil, append_assoc, length_push, map-append}
+use Rattle.std.proofs.lemmas.List.{append-nil, length_push, map-append}
 use Rattle.std.proofs.lemmas.List.Folds.{concat-append}
 use Rattle.std.proofs.lemmas.List.Sums.{sum_by-append}
 use Rattle.vx_desk.specs.declared.device.Slot.{Slot}
@@ -19,8 +18,8 @@ use Rattle.vx_drivers.specs.declared.tick_run.TickRun.{TickRun}
 use Rattle.vx_drivers.specs.declared.ticks.Tally.{Tally}
 use Rattle.vx_drivers.specs.Along.{Along}
 use Rattle.vx_drivers.specs.Sending.{Sent, Text}
-use Rattle.vx_drivers.specs.TickRun.{TickRules, TickStand, TakesEvent, certificates_text, counts_line, counts_text, lines_text, no_events, one_more, published_count, refused_count, undecided_count}
-use Rattle.vx_drivers.specs.TickSteps.{AnswersEvent, GivesTexts, HasCounted, HasRead, IsWrittenAs, IsAtEvent, SendsBoth, SendsTick, TALLY_MAX, answers_counted}
+use Rattle.vx_drivers.specs.TickRun.{TickRules, TickStand, TakesEvent, counts_line, counts_text, no_events, one_more, published_count, refused_count, undecided_count}
+use Rattle.vx_drivers.specs.TickSteps.{AnswersEvent, GivesTexts, HasCounted, IsWrittenAs, IsAtEvent, SendsBoth, SendsTick, TALLY_MAX, answers_counted}
 use Rattle.vx_drivers.proofs.AlongLemmas.{along_more}
 use Rattle.vx_drivers.proofs.SendingLemmas.{sent_none}
 

@@ -1,13 +1,10 @@
-use Rattle.std.proofs.Common.{◌≡◌, ◌∙◌, sym, subst, ap, refl, ℕ, ◌+◌, ◌<◌, ◌≤◌, List, [], ◌++◌, Option, Some, None, IfSome, arith, length, inl, inr, Ok, Err, Result, Bool, false, true}
+use Rattle.std.proofs.Common.{◌∙◌, sym, subst, ap, refl, ℕ, ◌≤◌, List, ◌++◌, IfSome, arith, length, inl, Err}
 use Rattle.std.specs.Prelude.{codes}
-use Rattle.vx_feed.specs.declared.events.Event.{Event}
-use Rattle.vx_feed.specs.Feed.{Reading}
-use Rattle.vx_reading.specs.FeedReading.{IsAt, IsReadTo, ReadsTo}
+use Rattle.vx_reading.specs.FeedReading.{IsReadTo, ReadsTo}
 use Rattle.vx_drivers.specs.declared.exit.Exit.{Exit}
-use Rattle.vx_drivers.specs.Answers.{answer_of, said_no}
+use Rattle.vx_drivers.specs.Answers.{answer_of}
 use Rattle.vx_drivers.specs.CertificateExits.{IsCertificateExit}
-use Rattle.vx_drivers.specs.CertificateRun.{Stand}
-use Rattle.vx_drivers.specs.CertificateSteps.{Between, ComesOf, EndsBefore, read_as}
+use Rattle.vx_drivers.specs.CertificateSteps.{ComesOf, EndsBefore, read_as}
 use Rattle.vx_drivers.specs.Exits.{exit_calls}
 use Rattle.vx_reading.specs.Failures.{IsStep}
 use Rattle.vx_drivers.proofs.ExitLemmas.{stop_named}

@@ -1,4 +1,4 @@
-use Rattle.std.proofs.Common.{◌≡◌, ◌-◌, ◌≤◌, Option, None, IsTrue}
+use Rattle.std.proofs.Common.{◌-◌, ◌≤◌, Option, None, IsTrue}
 use Rattle.vx_desk.specs.declared.device.Slot.TheVariants.{Feed, Side, Out}
 use Rattle.vx_desk.specs.Coming.{IsReader}
 use Rattle.vx_desk.specs.Told.{Told}

@@ -1,11 +1,9 @@
-use Rattle.std.proofs.Common.{◌≡◌, ◌∙◌, sym, subst, ap, refl, ℕ, ◌+◌, ◌≤◌, List, [], ◌∷◌, ◌++◌, Option, arith, length, inl, Ok, Err}
+use Rattle.std.proofs.Common.{◌≡◌, ◌∙◌, sym, subst, ap, refl, ◌+◌, arith, length, inl}
 use Rattle.vx_desk.specs.declared.device.Slot.TheVariants.{Feed, Side, Out}
-use Rattle.vx_feed.specs.Feed.{Reading}
 use Rattle.vx_reading.specs.FeedReading.{IsAt}
 use Rattle.vx_reading.proofs.FailureLemmas.{step_after}
 use Rattle.vx_reading.proofs.FeedLemmas.{at_kept}
 use Rattle.vx_drivers.specs.Answers.{answer_of, answer_text, count_no, count_yes}
-use Rattle.vx_drivers.specs.CertificateRun.{Stand}
 use Rattle.vx_drivers.specs.CertificateSteps.{next_text}
 use Rattle.vx_drivers.specs.Exits.{calls_in}
 use Rattle.vx_drivers.specs.Sending.{SendsOr}

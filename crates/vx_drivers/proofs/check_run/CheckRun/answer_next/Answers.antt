@@ -1,4 +1,4 @@
-use Rattle.std.proofs.Common.{◌≡◌, ◌∙◌, sym, subst, ap, refl, ℕ, ◌+◌, ◌-◌, ◌<◌, ◌≤◌, List, Option, IfSome, arith, length, Ok, Err, Some, None}
+use Rattle.std.proofs.Common.{◌≡◌, ◌∙◌, subst, refl, ◌+◌, ◌-◌, arith}
 use Rattle.vx_lines.specs.TextLines.{at_end, no_eol, too_long}
 use Rattle.vx_desk.specs.declared.device.Slot.TheVariants.{Feed, Side, Out}
 use Rattle.vx_desk.specs.Coming.{coming}

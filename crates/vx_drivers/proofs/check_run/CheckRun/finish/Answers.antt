@@ -1,4 +1,4 @@
-use Rattle.std.proofs.Common.{◌≡◌, ◌∙◌, sym, subst, Ok, Err}
+use Rattle.std.proofs.Common.{◌∙◌, sym, subst}
 use Rattle.vx_desk.specs.declared.device.Slot.TheVariants.{Out}
 use Rattle.vx_drivers.specs.CertificateSteps.{HasEnded}
 use Rattle.vx_drivers.proofs.ExitLemmas.{out_not_feed}

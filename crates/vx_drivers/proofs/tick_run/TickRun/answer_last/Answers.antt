@@ -1,4 +1,4 @@
-use Rattle.std.proofs.Common.{◌≡◌, ◌∙◌, subst, refl, List, [], ◌∷◌, ◌++◌, None, Some}
+use Rattle.std.proofs.Common.{◌∙◌, subst, refl, [], ◌∷◌, ◌++◌}
 use Rattle.vx_drivers.specs.TickSteps.{GivesTexts, SendsBoth}
 use Rattle.vx_drivers.proofs.TickLemmas.{no_tick, tick_sent}
 use Rattle.vx_drivers.proofs.tick_run.TickRun.answer_last.Goals as goal

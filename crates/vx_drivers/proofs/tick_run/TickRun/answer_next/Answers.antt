@@ -1,5 +1,5 @@
-use Rattle.std.proofs.Common.{◌≡◌, ◌∙◌, sym, subst, ap, refl, List, [], ◌∷◌, ◌++◌, ◌≤◌, None, Some}
-use Rattle.vx_desk.specs.declared.device.Slot.TheVariants.{Feed, Side, Out, Certs}
+use Rattle.std.proofs.Common.{◌∙◌, sym, subst, ap, refl, [], ◌∷◌, ◌++◌, ◌≤◌, None, Some}
+use Rattle.vx_desk.specs.declared.device.Slot.TheVariants.{Out, Certs}
 use Rattle.vx_feed.specs.declared.limits.TheConstants.{LINES_MAX}
 use Rattle.vx_reading.specs.declared.feed.FeedReader.{FeedReader}
 use Rattle.vx_reading.proofs.FailureLemmas.{step_after}

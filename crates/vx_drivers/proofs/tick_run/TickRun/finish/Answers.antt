@@ -1,4 +1,4 @@
-use Rattle.std.proofs.Common.{◌≡◌, ◌∙◌, refl}
+use Rattle.std.proofs.Common.{◌∙◌, refl}
 use Rattle.vx_desk.specs.declared.device.Slot.TheVariants.{Certs}
 use Rattle.vx_drivers.specs.declared.exit.Exit.TheVariants.{NoMemory}
 use Rattle.vx_drivers.proofs.ExitLemmas.{certs_not_out}
