@@ -7,7 +7,7 @@ use Rattle.vx_feed.specs.Feed.{Reading}
 use Rattle.vx_reading.specs.FeedReading.{Says, all_good}
 use Rattle.vx_drivers.specs.declared.exit.Exit.{Exit}
 use Rattle.vx_drivers.specs.Exits.{is_cut}
-use Rattle.vx_drivers.specs.TickRun.{AreWhole, GivesTickParts, RunsTicksIf, no_events}
+use Rattle.vx_drivers.specs.TickRun.{AreWhole, GivesTickAnswers, GivesTickParts, RunsTicksIf, no_events}
 use Rattle.vx_drivers.proofs.SendingLemmas.{sent_none}
 use Rattle.vx_cli.specs.ReplayRuns.{replay_rules}
 use Rattle.vx_cli.specs.Runs.{HasReplayed, SentIfOpen}
@@ -33,6 +33,11 @@ first_parts over = record {
   whole = none_begun;
 }
 
+-- and it is no answer at all
+no_answers : (over : Reading) → GivesTickAnswers replay_rules over [] []
+no_answers over =
+    record { stand = no_events; steps = refl; rest = over.events; are_first = refl; out_is = refl; certs_are = refl }
+
 -- a feed that is told, or some feed
 record SomeFeed (feed : Option Reading) : Type 0 where
   over : Reading
@@ -52,7 +57,8 @@ nothing_sent feed before after exit cut out shut certs =
       feed_is = some.feed_is;
       out = [];
       certs = [];
-      runs = subst (λ (b : Bool). RunsTicksIf replay_rules some.over exit [] [] b) (sym cut) (first_parts some.over);
+      runs = subst (λ (b : Bool). RunsTicksIf replay_rules some.over exit [] [] b) (sym cut)
+          (record { parts = first_parts some.over; whole = λ not. no_answers some.over });
       out_sent = sent_none (before Out) (after Out) out;
       certs_sent = subst (λ (b : Bool). SentIfOpen b [] (before Certs) (after Certs)) (sym shut) (refl, certs);
     }
