@@ -203,6 +203,14 @@ not_held reader none few =
     let no_lf : list_any (λ byte. byte == LF) reader.waiting ≡ false = no_lf_passes reader.waiting none in
     rw (short, no_lf) (elim reader.is_ended as (λ b. (not b && false) ≡ false) [ true ↦ refl | false ↦ refl ])
 
+-- nor does it after a read that failed
+pub still_not_held : (now new : ReaderState) (before after : Told) (past : Bool) (e : Failed) → HasNoLf now.waiting → past ≡ false
+    → (IsTrue past ↔ (now.limit < length now.waiting)) → Refills now new before after (Err e) → holds_line new ≡ false
+still_not_held now new before after past e none short is refills =
+    let same : new ≡ now = refills.state ∙ ap (with_waiting now) refills.grown in
+    let few : now.limit < length now.waiting → ⊥ = λ long. let clash : true ≡ false = sym (is.1 long) ∙ short in cc in
+    ap holds_line same ∙ not_held now none (grind arith)
+
 -- a search that found nothing leaves no LF
 pub none_found : (bytes : List ℕ) (found : Option ℕ) → MatchOption found (HasNoLf bytes) (IsFirstLf bytes) → ((place : ℕ) → found ≡ Some place → ⊥) → HasNoLf bytes
 none_found bytes None none not_some = none

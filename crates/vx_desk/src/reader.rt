@@ -1,6 +1,4 @@
-//! Cuts what is read from a slot into lines.
-
-ghost use Rattle.std.specs.Prelude.{◌≡◌, ◌+◌, ◌-◌, ◌<◌, ◌≤◌, length, slice_range, take, drop, slice_index, Some, None, true, false, [], ◌∷◌, ◌++◌, IsTrue, IfOk, MatchOption, OnOk, OnErr, ◌↔◌, ◌==◌};
+ghost use Rattle.std.specs.Prelude.{◌≡◌, ◌+◌, ◌-◌, ◌<◌, ◌≤◌, length, slice_range, take, drop, slice_index, Some, None, Err, true, false, [], ◌∷◌, ◌++◌, IsTrue, IfOk, MatchOption, OnOk, OnErr, ◌↔◌, ◌==◌};
 ghost use Rattle.std.specs.List.{list_any};
 ghost use Rattle.std.specs.Io.KnownBytes.{IsAtEnd};
 ghost use Rattle.vx_desk.specs.Slots.{IsReading};
@@ -82,7 +80,7 @@ impl LineReader {
     }
 
     /// The next line of the slot, or `None` at the end of the input or behind a line that was no line. Where `holds_line` says that one is
-    /// in hand, the desk is not called.
+    /// in hand, the desk is not called; and where a read fails, none is.
     #[tactic(auto, using(crate::proofs::ComingLemmas::takes_coming, crate::proofs::NextLemmas::ended_holds_none))]
     pub fn next<D: Desk>(&mut self, desk: &mut D) -> Result<Option<Line>, ReadFault>
         requires reading { IsReading self.old.slot }
@@ -90,6 +88,7 @@ impl LineReader {
         ensures answers { AnswersNext self.old self.new (to_come self.old (D.told desk.old self.old.slot)) (to_come self.new (D.told desk.new self.old.slot)) result }
         ensures takes { self.old.is_ended ≡ false → TakesLine (coming self.old (D.told desk.old)) (coming self.new (D.told desk.new)) self.new result }
         ensures in_hand { holds_line self.old ≡ true → (desk.new ≡ desk.old) × IsLineOrLong result }
+        ensures fault { result ≡ Err ReadFault.Device → holds_line self.new ≡ false }
         ensures ended { self.old.is_ended ≡ true → result ≡ Ok None }
         ensures counts { CountsReads result (D.told desk.old self.old.slot).failed_reads (D.told desk.new self.old.slot).failed_reads }
         ensures rest { ChangesReads (D.told desk.old self.old.slot) (D.told desk.new self.old.slot) }
@@ -111,6 +110,7 @@ impl LineReader {
         requires ready { self.old.is_ended ≡ false }
         ensures answers { AnswersNext self.old self.new (to_come self.old (D.told desk.old self.old.slot)) (to_come self.new (D.told desk.new self.old.slot)) result }
         ensures in_hand { holds_line self.old ≡ true → (desk.new ≡ desk.old) × IsLineOrLong result }
+        ensures fault { result ≡ Err ReadFault.Device → holds_line self.new ≡ false }
         ensures counts { CountsReads result (D.told desk.old self.old.slot).failed_reads (D.told desk.new self.old.slot).failed_reads }
         ensures rest { ChangesReads (D.told desk.old self.old.slot) (D.told desk.new self.old.slot) }
         ensures others { ChangesOnly self.old.slot (D.told desk.old) (D.told desk.new) }

@@ -1,6 +1,6 @@
 use Rattle.std.proofs.Common.{◌∙◌, sym, subst, ap, List, ℕ, take, arith}
 use Rattle.vx_desk.specs.Lines.{HasNoLf}
-use Rattle.vx_desk.proofs.NextLemmas.{answers_cut, counts_cut, cut_is_line_or_long, held_is_found, reads_once_more, others_once_more}
+use Rattle.vx_desk.proofs.NextLemmas.{answers_cut, counts_cut, cut_is_line_or_long, held_is_found, reads_once_more, others_once_more, still_not_held}
 use Rattle.vx_desk.proofs.reader.LineReader.read_line.Goals as goal
 
 pub returns-in-Some-clause-answers : goal.returns-in-Some-clause-answers
@@ -19,6 +19,11 @@ returns-in-Ok-eq0-clause-in_hand g c =
 pub returns-in-Err-clause-in_hand : goal.returns-in-Err-clause-in_hand
 returns-in-Err-clause-in_hand g c =
     held_is_found c.args.self.now c.fill.self c.args.desk.now c.fill.desk c.is_past_limit.result c.fill.invariant.held c.in_default.ensures c.if-is_past_limit.false c.is_past_limit.ensures
+
+pub returns-in-Err-clause-fault : goal.returns-in-Err-clause-fault
+returns-in-Err-clause-fault g c = λ is.
+    still_not_held c.fill.self c.refill.new.self (g.D.Desk.told c.fill.desk c.fill.self.slot) (g.D.Desk.told c.refill.new.desk c.fill.self.slot) c.is_past_limit.result _
+    c.in_default.ensures c.if-is_past_limit.false c.is_past_limit.ensures c.in-Err.ensures.refills
 
 pub fill-preserved : goal.fill-preserved
 fill-preserved g c =
