@@ -247,7 +247,7 @@ names_bad (Some said) number line events why is_cause says is within = record {
 pub reads_on : {T : Type 0} (StandsFor : T → List Event → Type 0) (whole : Option Reading) (number : ℕ) (events : List Event) (feed : FeedReader T) (told : Slot → Told) (why : FeedStop)
     → length events + 1 ≤ number → ReadsNext StandsFor whole events feed told (Err why) → ReadsTo StandsFor whole number feed told (Err why)
 reads_on StandsFor whole number events feed told (stop.BadLine line why) within h = names_bad whole number line events why h.1 h.2 h.0 within
-reads_on StandsFor whole number events feed told stop.Device within h = (events, h, omega (arith, within))
+reads_on StandsFor whole number events feed told stop.Device within h = (events, h.0, h.1, omega (arith, within))
 reads_on StandsFor whole number events feed told stop.NoMemory within h = tt
 
 -- an answer that is found to be this one
@@ -270,5 +270,5 @@ at_kept StandsFor whole events feed before after at same = record {
 pub reads_rest : {T : Type 0} (StandsFor : T → List Event → Type 0) (whole : Option Reading) (events : List Event) (feed : FeedReader T) (told : Slot → Told) (why : FeedStop)
     → ReadsNext StandsFor whole events feed told (Err why) → ReadsAll StandsFor whole feed told (Err why)
 reads_rest StandsFor whole events feed told (stop.BadLine line why) h = (h.1, events, h.0, h.2)
-reads_rest StandsFor whole events feed told stop.Device h = (events, h)
+reads_rest StandsFor whole events feed told stop.Device h = (events, h.0, h.1)
 reads_rest StandsFor whole events feed told stop.NoMemory h = tt

@@ -59,7 +59,7 @@ takes_line old new told events fields number result at lines table rest taken sa
     says
 
 -- all lines that were split are taken
-rest_alone : (ahead : LinesAhead) (told : Slot → Told) (events : List Event) → length ahead.table ≤ ahead.taken → ahead_says ahead told events ≡ option_map (λ t. rest_says ahead.rest t events) (coming ahead.lines told)
+pub rest_alone : (ahead : LinesAhead) (told : Slot → Told) (events : List Event) → length ahead.table ≤ ahead.taken → ahead_says ahead told events ≡ option_map (λ t. rest_says ahead.rest t events) (coming ahead.lines told)
 rest_alone ahead told events taken = ap (λ (fs : List (List (List ℕ))). option_map (λ t. fields_say (rest_says ahead.rest t) fs events) (coming ahead.lines told)) (drop_all ahead.taken ahead.table taken)
 
 -- and the feed ends

@@ -2,11 +2,13 @@
 use Rattle.std.specs.Prelude.{◌≡◌, ℕ, ◌<◌, ◌≤◌, ◌+◌, Bool, true, false, nat_le, List, [], ◌∷◌, ◌++◌, length, take, Option, Some, None, IfSome, Result, Ok, Err}
 use Rattle.std.specs.Option.{option_map, option_map_or}
 use Rattle.std.specs.List.{list_any}
+use Rattle.vx_lines.specs.Cut.{HasNoLf}
+use Rattle.vx_lines.specs.TextLines.{lines_of}
 use Rattle.vx_desk.specs.declared.device.Slot.{Slot}
 use Rattle.vx_desk.specs.declared.device.Slot.TheVariants.{Feed}
 use Rattle.vx_desk.specs.Told.{Told}
 use Rattle.vx_feed.specs.declared.events.Event.{Event}
-use Rattle.vx_feed.specs.declared.limits.TheConstants.{LINES_MAX}
+use Rattle.vx_feed.specs.declared.limits.TheConstants.{LINES_MAX, LINE_LEN_MAX}
 use Rattle.vx_feed.specs.Feed.{Reading, stopped_at}
 use Rattle.vx_feed.specs.Noted as noted
 use Rattle.vx_feed.specs.Order.{AreLawful, is_end}
@@ -15,7 +17,7 @@ use Rattle.vx_reading.specs.declared.stop.FeedCause.{FeedCause}
 use Rattle.vx_reading.specs.declared.stop.FeedCause.TheVariants.{MissingEnd}
 use Rattle.vx_reading.specs.declared.stop.FeedStop.{FeedStop}
 use Rattle.vx_reading.specs.declared.stop.FeedStop.TheVariants.{BadLine, Device, NoMemory}
-use Rattle.vx_feed.specs.Feed.{reading_of}
+use Rattle.vx_feed.specs.Feed.{reading_of, reading_on}
 use Rattle.vx_reading.specs.LinesAhead.{IsAhead, ahead_says, is_in_hand}
 use Rattle.vx_reading.specs.Stops.{IsCause, bad_cause}
 
@@ -52,6 +54,14 @@ IsTakerOf StandsFor feed taker =
     (whole : Option Reading) (events : List Event) (told : Slot → Told) → IsAt StandsFor whole events feed told
     → StandsFor taker events
 
+-- behind these events no more was read of a feed than a part of a line: what the whole feed says, that part and the bytes
+-- that are left say after these events
+pub record IsCutBehind (whole : Option Reading) (events : List Event) (told : Slot → Told) : Type 0 where
+  pub part : List ℕ
+  pub fits : length part ≤ LINE_LEN_MAX
+  pub no_lf : HasNoLf part
+  pub rest : whole ≡ option_map (λ left. reading_on events (lines_of LINE_LEN_MAX (part ++ left))) (told Feed).left
+
 -- the whole feed, where it is told, says this
 abbrev pub Says : Option Reading → Reading → Type 0
 Says whole said = IfSome whole (λ feed. feed ≡ said)
@@ -68,12 +78,12 @@ EndsAt false number result = result ≡ Err (BadLine number MissingEnd)
 -- ---- one line more
 
 -- one more event is taken up, or the feed ends here, or the next line is bad; at a fault of the device the same events
--- are taken up, and want of memory says nothing
+-- are taken up and no line is in hand; and want of memory says nothing
 abbrev pub ReadsNext : {T : Type 0} → (T → List Event → Type 0) → Option Reading → List Event → FeedReader T → (Slot → Told) → Result (Option Event) FeedStop → Type 0
 ReadsNext StandsFor whole events feed told (Ok (Some event)) = IsAt StandsFor whole (events ++ event ∷ []) feed told
 ReadsNext StandsFor whole events feed told (Ok None) = IsAt StandsFor whole events feed told × Says whole (all_good events)
 ReadsNext StandsFor whole events feed told (Err (BadLine line why)) = (line ≡ length events + 1) × IsCause why × Says whole (stopped_at events (bad_cause why))
-ReadsNext StandsFor whole events feed told (Err Device) = IsAt StandsFor whole events feed told
+ReadsNext StandsFor whole events feed told (Err Device) = IsAt StandsFor whole events feed told × (is_waiting feed ≡ false)
 ReadsNext StandsFor whole events feed told (Err NoMemory) = Unit {0}
 
 -- the next line is read
@@ -99,13 +109,13 @@ pub record NamesBad (whole : Option Reading) (number : ℕ) (line : ℕ) (why : 
   pub has_cause : IsCause why
 
 -- the feed is read up to a line or to its end, or its bad line is met; at a fault of the device it is read up to an
--- earlier line, and want of memory says nothing
+-- earlier line and no line is in hand; and want of memory says nothing
 abbrev pub ReadsTo : {T : Type 0} → (T → List Event → Type 0) → Option Reading → ℕ → FeedReader T → (Slot → Told) → Result Unit FeedStop → Type 0
 ReadsTo StandsFor whole number feed told (Ok _) =
     (events : List Event) × IsAt StandsFor whole events feed told × (length events ≤ number) × IfSome whole (IsReadTo number events)
 ReadsTo StandsFor whole number feed told (Err (BadLine line why)) = NamesBad whole number line why
 ReadsTo StandsFor whole number feed told (Err Device) =
-    (events : List Event) × IsAt StandsFor whole events feed told × (length events < number)
+    (events : List Event) × IsAt StandsFor whole events feed told × (is_waiting feed ≡ false) × (length events < number)
 ReadsTo StandsFor whole number feed told (Err NoMemory) = Unit {0}
 
 -- the lines up to this number are read, of which more were not read before
@@ -115,14 +125,14 @@ TakesUpTo StandsFor number old before new after result =
 
 -- ---- the whole feed
 
--- all lines are read and none is bad, or the bad line is met; at a fault of the device it is read up to some line, and
--- want of memory says nothing
+-- all lines are read and none is bad, or the bad line is met; at a fault of the device it is read up to some line and
+-- no line is in hand; and want of memory says nothing
 abbrev pub ReadsAll : {T : Type 0} → (T → List Event → Type 0) → Option Reading → FeedReader T → (Slot → Told) → Result Unit FeedStop → Type 0
 ReadsAll StandsFor whole feed told (Ok _) = (events : List Event) × IsAt StandsFor whole events feed told × Says whole (all_good events)
 ReadsAll StandsFor whole feed told (Err (BadLine line why)) =
     IsCause why × (events : List Event) × (line ≡ length events + 1) × Says whole (stopped_at events (bad_cause why))
 ReadsAll StandsFor whole feed told (Err Device) =
-    (events : List Event) × IsAt StandsFor whole events feed told
+    (events : List Event) × IsAt StandsFor whole events feed told × (is_waiting feed ≡ false)
 ReadsAll StandsFor whole feed told (Err NoMemory) = Unit {0}
 
 -- the rest of the feed is read

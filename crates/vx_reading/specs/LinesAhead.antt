@@ -104,11 +104,12 @@ abbrev pub OnFault : {T : Type 0} → Result T FeedStop → Type 0 → Type 0
 OnFault (Err Device) P = P
 OnFault _ P = Unit {0}
 
--- a device fault: no line to come is lost, and nothing changed but the bytes that wait and the block
+-- a device fault: no line to come is lost and none is held, and nothing changed but the bytes that wait and the block
 pub record IsFaulted (old new : LinesAhead) (before after : Slot → Told) : Type 0 where
   pub is_ahead : IsAhead new
   pub kept : new ≡ record old { lines = new.lines; block = new.block }
   pub same_coming : coming new.lines after ≡ coming old.lines before
+  pub none_held : holds_line new.lines ≡ false
 
 -- the lawful next event that a line says, or the line by its number with why it is bad; want of memory says nothing
 abbrev pub SaysEvent : Result Event BadCause → List Event → ℕ → Result (Option Event) FeedStop → Type 0
