@@ -1,12 +1,13 @@
 -- The exits of a run.
-use Rattle.std.proofs.Common.{◌≡◌, ◌≢◌, ap, refl, false, true}
+use Rattle.std.proofs.Common.{◌≡◌, ◌≢◌, ◌∙◌, sym, ap, refl, ℕ, false, true}
 use Rattle.vx_desk.specs.declared.device.Slot.{Slot}
 use Rattle.vx_desk.specs.declared.device.Slot.TheVariants.{Feed, Side, Out, Certs}
 use Rattle.vx_reading.specs.Stops.{stop_calls}
+use Rattle.vx_reading.specs.declared.stop.FeedCause.{FeedCause}
 use Rattle.vx_reading.specs.declared.stop.FeedStop.{FeedStop}
 use Rattle.vx_reading.specs.declared.stop.FeedStop.TheVariants as stop
 use Rattle.vx_drivers.specs.declared.exit.Exit.{Exit}
-use Rattle.vx_drivers.specs.declared.exit.Exit.TheVariants.{WriteFault}
+use Rattle.vx_drivers.specs.declared.exit.Exit.TheVariants.{Done, BadFeed, ReadFault, WriteFault, NoMemory}
 use Rattle.vx_drivers.specs.Exits.{exit_calls, exit_of_stop, is_cut, is_write_fault}
 
 -- the stop of a feed and its exit name the same failed calls
@@ -22,6 +23,19 @@ write_cuts slot exit is = ap is_cut is
 -- and is one of a failed write
 pub write_is_fault : {P : Type 0} (slot : Slot) (exit : Exit) → exit ≡ WriteFault slot → is_write_fault exit ≡ false → P
 write_is_fault slot exit is not = absurd (let no : ⊥ = let fault : is_write_fault exit ≡ true = ap is_write_fault is in cc in no)
+
+-- exits that are none of a failed read of the feed
+pub done_not_read : {P : Type 0} → Done ≡ ReadFault Feed → P
+done_not_read is = absurd (let no : ⊥ = cc in no)
+
+pub bad_not_read : {P : Type 0} (line : ℕ) (why : FeedCause) → BadFeed line why ≡ ReadFault Feed → P
+bad_not_read line why is = absurd (let no : ⊥ = cc in no)
+
+pub memory_not_read : {P : Type 0} → NoMemory ≡ ReadFault Feed → P
+memory_not_read is = absurd (let no : ⊥ = cc in no)
+
+pub write_not_read : {P : Type 0} (slot : Slot) (exit : Exit) → exit ≡ WriteFault slot → exit ≡ ReadFault Feed → P
+write_not_read slot exit is read = absurd (let no : ⊥ = let same : WriteFault slot ≡ ReadFault Feed = sym is ∙ read in cc in no)
 
 pub out_not_feed : Out ≢ Feed
 out_not_feed e = cc

@@ -4,7 +4,7 @@ use Rattle.std.specs.List.{concat}
 use Rattle.std.specs.Option.{option_to_list}
 use Rattle.std.proofs.lemmas.List.{append-nil, append_assoc, take-append-drop}
 use Rattle.vx_desk.specs.declared.device.Slot.{Slot}
-use Rattle.vx_desk.specs.declared.device.Slot.TheVariants.{Out, Certs}
+use Rattle.vx_desk.specs.declared.device.Slot.TheVariants.{Feed, Out, Certs}
 use Rattle.vx_desk.specs.Told.{Told}
 use Rattle.vx_feed.specs.declared.events.Event.{Event}
 use Rattle.vx_feed.specs.Feed.{Reading, stopped_at}
@@ -13,16 +13,17 @@ use Rattle.vx_reading.specs.declared.stop.FeedStop.{FeedStop}
 use Rattle.vx_reading.specs.declared.stop.FeedStop.TheVariants as stop
 use Rattle.vx_reading.specs.FeedReading.{IsAt, IsReadTo, ReadsNext, Says, all_good, feed_told}
 use Rattle.vx_reading.specs.Stops.{bad_cause}
+use Rattle.vx_reading.proofs.FaultLemmas.{cut_behind}
 use Rattle.vx_reading.proofs.FeedLemmas.{read_so_many}
 use Rattle.vx_drivers.specs.declared.exit.Exit.{Exit}
-use Rattle.vx_drivers.specs.declared.exit.Exit.TheVariants.{Done, BadFeed, WriteFault}
+use Rattle.vx_drivers.specs.declared.exit.Exit.TheVariants.{Done, BadFeed, NoMemory, ReadFault, WriteFault}
 use Rattle.vx_drivers.specs.declared.tick_run.TickRun.{TickRun}
 use Rattle.vx_drivers.specs.Along.{Along}
 use Rattle.vx_drivers.specs.Exits.{exit_of_stop, is_cut, is_write_fault}
 use Rattle.vx_drivers.specs.Sending.{CutsOff, Sent, Text}
 use Rattle.vx_drivers.specs.TickRun.{AreWhole, GivesTickAnswers, GivesTickParts, RunsTicksBy, RunsTicksIf, TickRules, TickStand, TakesEvent, certificates_text, counts_text, lines_text, no_events, one_more}
-use Rattle.vx_drivers.specs.TickSteps.{CutsTick, HasAnswered, HasEndedTicks, IsAtEvent, IsNewTicks, IsThroughTicks, SendsNothing, SendsTick}
-use Rattle.vx_drivers.proofs.ExitLemmas.{write_cuts, write_is_fault}
+use Rattle.vx_drivers.specs.TickSteps.{AnswersAllRead, CutsTick, HasAnswered, HasEndedTicks, IsAtEvent, IsNewTicks, IsThroughTicks, SendsNothing, SendsTick}
+use Rattle.vx_drivers.proofs.ExitLemmas.{bad_not_read, done_not_read, memory_not_read, write_cuts, write_is_fault, write_not_read}
 use Rattle.vx_drivers.proofs.SendingLemmas.{sent_more, sent_none, sent_still}
 use Rattle.vx_drivers.proofs.TickLemmas.{counted_same, steps_more, text_last, texts_more}
 
@@ -210,19 +211,19 @@ module _ {A : Type 0} (rules : TickRules A) where
   cut_inside over out certs slot exit is parts =
       cut_by over out certs exit (write_cuts slot exit is) parts (write_is_fault slot exit is)
 
-  -- a run that is cut off before it reads
-  pub never_started : (feed : Option Reading) (told : Slot → Told) (exit : Exit) → is_cut exit ≡ true
-      → HasEndedTicks rules feed told told exit
-  never_started feed told exit cut =
+  -- a run that has no memory to begin
+  pub never_started : (feed : Option Reading) (told : Slot → Told) → HasEndedTicks rules feed told told NoMemory
+  never_started feed told =
       let first = no_firsts feed in
       record {
         over = first.over;
         feed_is = first.feed_is;
         out = [];
         certs = [];
-        runs = cut_between first.over no_events first.rest exit cut first.are_first refl;
+        runs = cut_between first.over no_events first.rest NoMemory refl first.are_first refl;
         out_sent = sent_none (told Out) (told Out) refl;
         certs_sent = sent_none (told Certs) (told Certs) refl;
+        read_fault = memory_not_read;
       }
 
   module _ {T : Type 0} (StandsFor : T → List Event → Type 0) where
@@ -297,8 +298,9 @@ module _ {A : Type 0} (rules : TickRules A) where
       pub cut_short : (run : TickRun T) (between now : Slot → Told) (exit : Exit)
           → HasAnswered rules StandsFor feed before run between
           → now Out ≡ between Out → now Certs ≡ between Certs → is_cut exit ≡ true
+          → (exit ≡ ReadFault Feed → AnswersAllRead rules feed before now)
           → HasEndedTicks rules feed before now exit
-      cut_short run between now exit way out_same certs_same cut =
+      cut_short run between now exit way out_same certs_same cut read =
           let first = firsts feed way.stand.events
           (read_so_many StandsFor feed (length way.stand.events) way.stand.events run.feed between way.between.at refl)
           in
@@ -310,6 +312,7 @@ module _ {A : Type 0} (rules : TickRules A) where
             runs = cut_between first.over way.stand first.rest exit cut first.are_first way.between.steps;
             out_sent = still rules.line way.stand.answers Out between now way.out out_same;
             certs_sent = still rules.certificate way.stand.answers Certs between now way.certs certs_same;
+            read_fault = read;
           }
 
       -- the feed is not read on
@@ -333,11 +336,18 @@ module _ {A : Type 0} (rules : TickRules A) where
             };
             out_sent = still rules.line way.stand.answers Out between now way.out out_same;
             certs_sent = still rules.certificate way.stand.answers Certs between now way.certs certs_same;
+            read_fault = bad_not_read number why;
           }
-      stop_ends run reader between now stop.Device way out_same certs_same reads = cut_short run between now
-          (exit_of_stop stop.Device) way out_same certs_same refl
-      stop_ends run reader between now stop.NoMemory way out_same certs_same reads = cut_short run between now
-          (exit_of_stop stop.NoMemory) way out_same certs_same refl
+      stop_ends run reader between now stop.Device way out_same certs_same reads =
+          cut_short run between now (exit_of_stop stop.Device) way out_same certs_same refl (λ is. record {
+            stand = way.stand;
+            steps = way.between.steps;
+            cut = cut_behind StandsFor feed way.stand.events reader now reads.0 reads.1;
+            out = still rules.line way.stand.answers Out between now way.out out_same;
+            certs = still rules.certificate way.stand.answers Certs between now way.certs certs_same;
+          })
+      stop_ends run reader between now stop.NoMemory way out_same certs_same reads =
+          cut_short run between now (exit_of_stop stop.NoMemory) way out_same certs_same refl memory_not_read
 
       -- the run ended at an event
       pub event_ends : (run : TickRun T) (reader : FeedReader T) (between read now : Slot → Told) (event : Event)
@@ -347,7 +357,8 @@ module _ {A : Type 0} (rules : TickRules A) where
           → SendsNothing read now exit ⊎ CutsTick rules way.stand event read now exit
           → HasEndedTicks rules feed before now exit
       event_ends run reader between read now event exit way out_same certs_same at (inl nothing) =
-          cut_short run between now exit way (nothing.out ∙ out_same) (nothing.certs ∙ certs_same) nothing.cut
+          subst (λ e. HasEndedTicks rules feed before now e) (sym nothing.exit_is)
+          (cut_short run between now NoMemory way (nothing.out ∙ out_same) (nothing.certs ∙ certs_same) refl memory_not_read)
       event_ends run reader between read now event exit way out_same certs_same at (inr cuts) =
           let events = way.stand.events ++ event ∷ [] in
           let first = firsts feed events (read_so_many StandsFor feed (length events) events reader read at refl) in
@@ -375,6 +386,7 @@ module _ {A : Type 0} (rules : TickRules A) where
             out_sent = still rules.line way.stand.answers Out between now way.out (same ∙ out_same);
             certs_sent = more rules.certificate way.stand.answers (take cut.part.count (rules.certificate cuts.answer))
                 Certs between read now way.certs certs_same cut.part.sent;
+            read_fault = write_not_read Certs exit cut.exit_is;
           }
           cut_at first steps (inr (sent, cut)) = record {
             over = first.over;
@@ -390,6 +402,7 @@ module _ {A : Type 0} (rules : TickRules A) where
                 (sym (text_last rules.certificate way.stand.answers cuts.answer))
                 (more rules.certificate way.stand.answers (rules.certificate cuts.answer)
                 Certs between read now way.certs certs_same sent);
+            read_fault = write_not_read Out exit cut.exit_is;
           }
 
       -- ---- behind the last event
@@ -431,6 +444,7 @@ module _ {A : Type 0} (rules : TickRules A) where
             out_sent = more rules.line way.stand.answers (counts_text rules way.stand.answers)
                 Out between between now way.out refl (subst (λ t. Sent t (between Out) (now Out)) is sent);
             certs_sent = still rules.certificate way.stand.answers Certs between now way.certs certs_same;
+            read_fault = done_not_read;
           }
 
       -- or a write of it fails
@@ -453,4 +467,5 @@ module _ {A : Type 0} (rules : TickRules A) where
             out_sent = more rules.line way.stand.answers part Out between between now way.out refl
                 (subst (λ t. Sent (take cut.part.count t) (between Out) (now Out)) is cut.part.sent);
             certs_sent = still rules.certificate way.stand.answers Certs between now way.certs certs_same;
+            read_fault = write_not_read Out exit cut.exit_is;
           }

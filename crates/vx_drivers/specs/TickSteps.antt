@@ -3,18 +3,19 @@ use Rattle.std.specs.Prelude.{◌≡◌, ◌⊎◌, ℕ, ◌+◌, ◌*◌, ◌^�
 use Rattle.std.specs.Prelude.{IfOk, Option, Some, None, Result, Ok, Err}
 use Rattle.std.specs.Option.{option_to_list}
 use Rattle.vx_desk.specs.declared.device.Slot.{Slot}
-use Rattle.vx_desk.specs.declared.device.Slot.TheVariants.{Out, Certs}
+use Rattle.vx_desk.specs.declared.device.Slot.TheVariants.{Feed, Out, Certs}
 use Rattle.vx_desk.specs.Told.{Told}
 use Rattle.vx_num.specs.declared.fault.NoMemory.{NoMemory}
 use Rattle.vx_feed.specs.declared.events.Event.{Event}
 use Rattle.vx_feed.specs.Feed.{Reading}
 use Rattle.vx_feed.specs.Order.{AreLawful}
-use Rattle.vx_reading.specs.FeedReading.{IsAt, Says, all_good, feed_told}
+use Rattle.vx_reading.specs.FeedReading.{IsAt, IsCutBehind, Says, all_good, feed_told}
 use Rattle.vx_drivers.specs.declared.exit.Exit.{Exit}
+use Rattle.vx_drivers.specs.declared.exit.Exit.TheVariants.{ReadFault}
+use Rattle.vx_drivers.specs.declared.exit.Exit.TheVariants as exits
 use Rattle.vx_drivers.specs.declared.tick_run.TickRun.{TickRun}
 use Rattle.vx_drivers.specs.declared.ticks.Tally.{Tally}
 use Rattle.vx_drivers.specs.Along.{Along}
-use Rattle.vx_drivers.specs.Exits.{is_cut}
 use Rattle.vx_drivers.specs.Sending.{CutsOff, Sent, Text}
 use Rattle.vx_drivers.specs.TickRun.{TickRules, TickStand, TakesEvent, RunsTicksBy, no_events, one_more}
 use Rattle.vx_drivers.specs.TickRun.{certificates_text, lines_text, published_count, refused_count, undecided_count}
@@ -81,11 +82,20 @@ pub record CutsTick {A : Type 0} (rules : TickRules A) (stand : TickStand A) (ev
   pub gives : rules.IsGiven (stand.events ++ event ∷ []) (Some answer)
   pub cut : CutsBoth (rules.certificate answer) (rules.line answer) before after exit
 
--- nothing was sent, and the run is cut off
+-- nothing was sent for want of memory
 pub record SendsNothing (before after : Slot → Told) (exit : Exit) : Type 0 where
-  pub cut : is_cut exit ≡ true
+  pub exit_is : exit ≡ exits.NoMemory
   pub certs : after Certs ≡ before Certs
   pub out : after Out ≡ before Out
+
+-- a read of the feed failed: just the answers to its first events were sent, each with its certificate, and behind these
+-- events no more was read of the feed than a part of a line
+pub record AnswersAllRead {A : Type 0} (rules : TickRules A) (feed : Option Reading) (before after : Slot → Told) : Type 0 where
+  pub stand : TickStand A
+  pub steps : Along (TakesEvent rules) no_events stand.events stand
+  pub cut : IsCutBehind feed stand.events after
+  pub out : Sent (lines_text rules stand.answers) (before Out) (after Out)
+  pub certs : Sent (certificates_text rules stand.answers) (before Certs) (after Certs)
 
 -- the run ended with this exit, and sent what it gives over the feed: the one that is told, or some feed where none is
 pub record HasEndedTicks {A : Type 0} (rules : TickRules A) (feed : Option Reading) (before after : Slot → Told)
@@ -97,6 +107,7 @@ pub record HasEndedTicks {A : Type 0} (rules : TickRules A) (feed : Option Readi
   pub runs : RunsTicksBy rules over exit out certs
   pub out_sent : Sent out (before Out) (after Out)
   pub certs_sent : Sent certs (before Certs) (after Certs)
+  pub read_fault : exit ≡ ReadFault Feed → AnswersAllRead rules feed before after
 
 -- nothing was read
 pub record IsNewTicks {T : Type 0} (StandsFor : T → List Event → Type 0) (run : TickRun T) : Type 0 where

@@ -49,7 +49,7 @@ record IsPart (limit : ℕ) (bytes : List ℕ) : Type 0 where
 part_waits : (reader : ReaderState) → reader.is_ended ≡ false → holds_line reader ≡ false → IsPart reader.limit reader.waiting
 part_waits reader ready none =
     let either : (nat_lt reader.limit (length reader.waiting) || list_any (λ byte. byte == LF) reader.waiting) ≡ false =
-        subst (λ (b : Bool). (not b && (nat_lt reader.limit (length reader.waiting) || list_any (λ byte. byte == LF) reader.waiting)) ≡ false) ready none in
+    subst (λ (b : Bool). (not b && (nat_lt reader.limit (length reader.waiting) || list_any (λ byte. byte == LF) reader.waiting)) ≡ false) ready none in
     let parts = or_parts (nat_lt reader.limit (length reader.waiting)) (list_any (λ byte. byte == LF) reader.waiting) either in
     record { fits = at_most reader.limit (length reader.waiting) parts.0; no_lf = none_among reader.waiting parts.1 }
   where

@@ -1,14 +1,13 @@
 use Rattle.std.proofs.Common.{refl}
 use Rattle.vx_reading.specs.FeedReading.{feed_told}
 use Rattle.vx_reading.proofs.FailureLemmas.{step_after}
-use Rattle.vx_drivers.specs.declared.exit.Exit.TheVariants.{NoMemory}
 use Rattle.vx_drivers.specs.Exits.{exit_calls}
 use Rattle.vx_drivers.proofs.TickRunLemmas.{never_started, starts}
 use Rattle.vx_drivers.proofs.tick_run.answer_ticks.Goals as goal
 
 pub returns-in-Err-clause-ends : goal.returns-in-Err-clause-ends
-returns-in-Err-clause-ends g c = never_started g.T.AnswersTicks.rules (feed_told (g.D.Desk.told c.args.desk.now))
-    (g.D.Desk.told c.args.desk.now) NoMemory refl
+returns-in-Err-clause-ends g c =
+    never_started g.T.AnswersTicks.rules (feed_told (g.D.Desk.told c.args.desk.now)) (g.D.Desk.told c.args.desk.now)
 
 pub answer_all-requires-clause-may : goal.answer_all-requires-clause-may
 answer_all-requires-clause-may g c = (

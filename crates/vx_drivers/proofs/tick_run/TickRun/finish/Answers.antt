@@ -1,7 +1,7 @@
 use Rattle.std.proofs.Common.{◌∙◌, refl}
 use Rattle.vx_desk.specs.declared.device.Slot.TheVariants.{Certs}
 use Rattle.vx_drivers.specs.declared.exit.Exit.TheVariants.{NoMemory}
-use Rattle.vx_drivers.proofs.ExitLemmas.{certs_not_out}
+use Rattle.vx_drivers.proofs.ExitLemmas.{certs_not_out, memory_not_read}
 use Rattle.vx_drivers.proofs.TickLemmas.{counts_are}
 use Rattle.vx_drivers.proofs.TickRunLemmas.{cut_short, last_cut, last_sent}
 use Rattle.vx_drivers.proofs.tick_run.TickRun.finish.Goals as goal
@@ -9,7 +9,7 @@ use Rattle.vx_drivers.proofs.tick_run.TickRun.finish.Goals as goal
 pub returns-in-Err-clause-ends : goal.returns-in-Err-clause-ends
 returns-in-Err-clause-ends g c = λ feed before through.
     cut_short g.T.AnswersTicks.rules g.T.TakesEvents.StandsFor feed before c.args.self.now (g.D.Desk.told c.args.desk.now)
-    (g.D.Desk.told c.args.desk.now) NoMemory through.way refl refl refl
+    (g.D.Desk.told c.args.desk.now) NoMemory through.way refl refl refl memory_not_read
 
 pub returns-in-Ok-send_line-clause-ends : goal.returns-in-Ok-send_line-clause-ends
 returns-in-Ok-send_line-clause-ends g c = λ feed before through.
