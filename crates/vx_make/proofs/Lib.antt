@@ -3,4 +3,4 @@ pub mod FeedLemmas
 mod LineLemmas
 mod WrittenEvents
 mod SampleEvents
-mod SampleFeeds
+pub mod SampleFeeds
