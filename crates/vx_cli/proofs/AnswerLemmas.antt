@@ -44,12 +44,13 @@ no_event time (first, at) = omega (arith, first)
 -- ---- what the replay says
 
 -- a tick with its answer, or another event with none
-abbrev IsEither : List Event → Event → Option TickAnswer → Type 0
+abbrev pub IsEither : List Event → Event → Option TickAnswer → Type 0
 IsEither events e answer =
     ((time : ℕ) × (a : TickAnswer) × (e ≡ event.Tick time) × (answer ≡ Some a) × IsAnswerNext events time a)
     ⊎ ((minute_of_tick e ≡ None) × (answer ≡ None))
 
-either : (events : List Event) (e : Event) (answer : Option TickAnswer) → IsStepAnswer events e answer → IsEither events e answer
+-- which of the two it is
+pub either : (events : List Event) (e : Event) (answer : Option TickAnswer) → IsStepAnswer events e answer → IsEither events e answer
 either events (event.Tick time) (Some a) h = inl (time, a, refl, refl, h)
 either events (event.Tick time) None h = absurd h
 either events (event.Header day) answer h = inr (refl, h)

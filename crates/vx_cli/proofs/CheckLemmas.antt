@@ -22,7 +22,7 @@ use Rattle.vx_drivers.proofs.SendingLemmas.{sent_none}
 use Rattle.vx_cli.specs.CheckRuns.{check_rules}
 use Rattle.vx_cli.proofs.ReplayLemmas.{nothing_sent}
 use Rattle.vx_cli.specs.Runs.{ChecksFiles, ChecksOpen, IsCheckExit, IsExitOf, IsMakeExit, IsReplayExit, IsOpenAs, IsShut, OpensBoth, OpensNothing, OpensToCheck, SendsFor}
-use Rattle.vx_cli.specs.Words.{Command, check, make, replay}
+use Rattle.vx_cli.specs.Words.{Command, check, drill, make, replay}
 
 -- ---- exits
 
@@ -85,11 +85,13 @@ pub exit_without : (exit : Exit) (command : Command) → IsExitOf exit command �
 exit_without exit (replay feed certs) h = replay_without exit h
 exit_without exit (check feed certs) h = check_without exit h
 exit_without exit (make number ticks) h = make_without exit h
+exit_without exit (drill number ticks) h = make_without exit h
 
 pub exit_not_usage : (exit : Exit) (command : Command) → IsExitOf exit command → exit ≢ Usage
 exit_not_usage exit (replay feed certs) h = λ is. subst IsReplayExit is h
 exit_not_usage exit (check feed certs) h = λ is. subst IsCheckExit is h
 exit_not_usage exit (make number ticks) h = λ is. subst IsMakeExit is h
+exit_not_usage exit (drill number ticks) h = λ is. subst IsMakeExit is h
 
 -- ---- slots
 
@@ -190,3 +192,4 @@ nothing_done (Some (replay feed certs)) holds told only =
     nothing_sent (option_map reading_of (holds feed)) told told NoMemory refl refl (only Certs (λ e. cc)) refl
 nothing_done (Some (check feed certs)) holds told only = sends_nothing feed certs holds told only told NoMemory refl refl
 nothing_done (Some (make number ticks)) holds told only = refl
+nothing_done (Some (drill number ticks)) holds told only = refl

@@ -10,5 +10,10 @@ mod JudgeLemmas
 mod VersionLemmas
 -- the answers of `replay`
 mod AnswerLemmas
+-- the answers that `drill` counts
+mod DrillLemmas
+mod CountLemmas
 mod RangeLemmas
 mod ReplayLemmas
+mod SampleLemmas
+mod TextDeskLemmas

@@ -1,5 +1,5 @@
--- The laws of what the commands write: each text is a function of what is read.
-use Rattle.std.specs.Prelude.{◌≡◌, ℕ, List}
+-- The laws of what the commands write: each text is a function of what is read, and `drill` leaves no tick out.
+use Rattle.std.specs.Prelude.{◌≡◌, ℕ, List, length}
 use Rattle.vx_drivers.specs.declared.exit.Exit.{Exit}
 use Rattle.vx_cli.specs.ExitText.{Text}
 use Rattle.vx_cli.specs.CheckRuns.{Checks}
@@ -25,3 +25,7 @@ SettleIsOne = (feed positions : List ℕ) (out certs other_out other_certs : Tex
 -- a number and a count of ticks have at most one output of `drill`
 abbrev pub DrillIsOne : Type 0
 DrillIsOne = (number ticks : ℕ) (out other_out : Text) → Drills number ticks out → Drills number ticks other_out → out ≡ other_out
+
+-- it has as many answers as ticks were asked for
+abbrev pub DrillAnswersEveryTick : Type 0
+DrillAnswersEveryTick = (number ticks : ℕ) (out : Text) (h : Drills number ticks out) → length h.answers ≡ ticks

@@ -2,6 +2,7 @@
 pub mod CheckLaws
 pub mod CheckRuns
 pub mod ExitText
+pub mod DrillRuns
 pub mod DrillText
 pub mod Laws
 pub mod Operands
@@ -13,4 +14,5 @@ pub mod ReplayText
 pub mod Requests
 pub mod Runs
 pub mod SettleText
+pub mod TextDesk
 pub mod Words

@@ -1,17 +1,23 @@
 -- What a request that was read asks for, and the ranges of its numbers.
-use Rattle.std.specs.Prelude.{◌<◌, ◌≤◌}
+use Rattle.std.specs.Prelude.{ℕ, ◌<◌, ◌≤◌}
 use Rattle.vx_make.specs.declared.limits.TheConstants.{STATES, TICKS_MAX}
 use Rattle.vx_cli.specs.declared.request.Request.{Request}
-use Rattle.vx_cli.specs.declared.request.Request.TheVariants.{Check, Make, Replay}
-use Rattle.vx_cli.specs.Words.{Command, check, make, replay}
+use Rattle.vx_cli.specs.declared.request.Request.TheVariants.{Check, Drill, Make, Replay}
+use Rattle.vx_cli.specs.Words.{Command, check, drill, make, replay}
 
 abbrev pub asked : Request → Command
 asked (Replay feed certs) = replay feed.now certs.now
 asked (Check feed certs) = check feed.now certs.now
 asked (Make number ticks) = make number ticks
+asked (Drill number ticks) = drill number ticks
 
--- there is a sample feed of its number and its ticks
+-- there is a sample feed of a number and so many ticks
+abbrev pub IsSample : ℕ → ℕ → Type 0
+IsSample number ticks = (number < STATES) × (1 ≤ ticks) × (ticks ≤ TICKS_MAX)
+
+-- the numbers of a request for a sample feed are those of one
 abbrev pub IsInRange : Request → Type 0
 IsInRange (Replay feed certs) = Unit {0}
 IsInRange (Check feed certs) = Unit {0}
-IsInRange (Make number ticks) = (number < STATES) × (1 ≤ ticks) × (ticks ≤ TICKS_MAX)
+IsInRange (Make number ticks) = IsSample number ticks
+IsInRange (Drill number ticks) = IsSample number ticks

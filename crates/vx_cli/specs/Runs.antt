@@ -17,8 +17,9 @@ use Rattle.vx_drivers.specs.TickExits.{IsTickExit}
 use Rattle.vx_drivers.specs.TickRun.{RunsTicksBy}
 use Rattle.vx_drivers.specs.TickSteps.{HasEndedTicks}
 use Rattle.vx_cli.specs.CheckRuns.{check_rules}
+use Rattle.vx_cli.specs.DrillText.{Drills}
 use Rattle.vx_cli.specs.ReplayRuns.{replay_rules}
-use Rattle.vx_cli.specs.Words.{Command, check, make, replay}
+use Rattle.vx_cli.specs.Words.{Command, check, drill, make, replay}
 
 -- ---- how a command ends
 
@@ -34,6 +35,7 @@ IsCheckExit (OpenFault Feed) = Unit {0}
 IsCheckExit (OpenFault Side) = Unit {0}
 IsCheckExit exit = IsCertificateExit exit
 
+-- how `make` and `drill` end: all is sent, memory is wanting, or a write of the output fails
 abbrev pub IsMakeExit : Exit → Type 0
 IsMakeExit Done = Unit {0}
 IsMakeExit NoMemory = Unit {0}
@@ -45,6 +47,7 @@ abbrev pub IsExitOf : Exit → Command → Type 0
 IsExitOf exit (replay feed certs) = IsReplayExit exit
 IsExitOf exit (check feed certs) = IsCheckExit exit
 IsExitOf exit (make number ticks) = IsMakeExit exit
+IsExitOf exit (drill number ticks) = IsMakeExit exit
 
 -- ---- which slots are open at its end
 
@@ -90,6 +93,7 @@ OpensFor None told exit = OpensNothing told
 OpensFor (Some (replay feed certs)) told exit = OpensToReplay feed certs told exit
 OpensFor (Some (check feed certs)) told exit = OpensToCheck feed certs told exit
 OpensFor (Some (make number ticks)) told exit = OpensNothing told
+OpensFor (Some (drill number ticks)) told exit = OpensNothing told
 
 -- ---- what it sends
 
@@ -100,6 +104,15 @@ Makes number ticks before after Done = Sent (make_text number ticks) before afte
 Makes number ticks before after NoMemory = after.sent ≡ before.sent
 Makes number ticks before after (WriteFault Out) = SentPart (make_text number ticks) before after
 Makes number ticks before after _ = ⊥
+
+-- what a run of `drill` sends, by its exit: its whole line, or nothing for want of memory, or a first part of the line
+-- before a write that failed; it has no other exit
+abbrev pub DrillsTo : ℕ → ℕ → Told → Told → Exit → Type 0
+DrillsTo number ticks before after Done = (line : Text) × Drills number ticks line × Sent line before after
+DrillsTo number ticks before after NoMemory = after.sent ≡ before.sent
+DrillsTo number ticks before after (WriteFault Out) =
+    (line : Text) × Drills number ticks line × SentPart line before after
+DrillsTo number ticks before after _ = ⊥
 
 -- what a run of `check` sends, by its exit: over the bytes that the two names hold, where they are told, the text of a run
 -- that ends so, or a first part of it where a call fails or memory is wanting
@@ -137,9 +150,10 @@ ReplaysOpen before after exit = HasEndedTicks replay_rules (feed_told before) be
 abbrev pub ReplaysFile : Text → (List ℕ → Option (List ℕ)) → (Slot → Told) → (Slot → Told) → Exit → Type 0
 ReplaysFile feed holds before after exit = HasReplayed (option_map reading_of (holds feed)) before after exit
 
--- what a command sends, by the exit of its run: `check` and `make` to the output alone
+-- what a command sends, by the exit of its run: `check`, `make` and `drill` to the output alone
 abbrev pub SendsFor : Option Command → (List ℕ → Option (List ℕ)) → (Slot → Told) → (Slot → Told) → Exit → Type 0
 SendsFor None holds before after exit = (after Out).sent ≡ (before Out).sent
 SendsFor (Some (replay feed certs)) holds before after exit = ReplaysFile feed holds before after exit
 SendsFor (Some (check feed certs)) holds before after exit = ChecksFiles feed certs holds before after exit
 SendsFor (Some (make number ticks)) holds before after exit = Makes number ticks (before Out) (after Out) exit
+SendsFor (Some (drill number ticks)) holds before after exit = DrillsTo number ticks (before Out) (after Out) exit

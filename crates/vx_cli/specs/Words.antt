@@ -21,12 +21,13 @@ abbrev pub two_of : List Text → Option (Text × Text)
 two_of (first ∷ second ∷ []) = Some (first, second)
 two_of _ = None
 
--- what a command line asks for: `replay` and `check` with the names of their files, `make` with the number and
--- the ticks of a sample feed
+-- what a command line asks for: `replay` and `check` with the names of their files, `make` and `drill` with the
+-- number and the ticks of a sample feed
 pub data Command : Type 0 where
   replay : Text → Text → Command
   check : Text → Text → Command
   make : ℕ → ℕ → Command
+  drill : ℕ → ℕ → Command
 
 -- no file is named twice
 abbrev pub two_files : Text × Text → Option (Text × Text)
@@ -55,12 +56,17 @@ sample_of texts = option_zip (number_of texts.0) (ticks_of texts.1)
 abbrev pub make_form : List Text → Option Command
 make_form operands = option_map (λ sample. make sample.0 sample.1) (option_and_then sample_of (two_of operands))
 
+-- `drill NUMBER TICKS`
+abbrev pub drill_form : List Text → Option Command
+drill_form operands = option_map (λ sample. drill sample.0 sample.1) (option_and_then sample_of (two_of operands))
+
 -- the form that a command's name asks for
 abbrev pub named_form : Text → List Text → Option Command
 named_form name operands =
     if bytes_eq name (codes "replay") then replay_form operands
     else if bytes_eq name (codes "check") then check_form operands
     else if bytes_eq name (codes "make") then make_form operands
+    else if bytes_eq name (codes "drill") then drill_form operands
     else None
 
 abbrev pub form_of : List Text → Option Command

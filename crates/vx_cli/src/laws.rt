@@ -1,6 +1,6 @@
 //! Laws of what the commands write. Each function does nothing: its clause is the law.
 
-ghost use Rattle.vx_cli.specs.Laws.{CheckIsOne, DrillIsOne, ReplayIsOne, SettleIsOne};
+ghost use Rattle.vx_cli.specs.Laws.{CheckIsOne, DrillAnswersEveryTick, DrillIsOne, ReplayIsOne, SettleIsOne};
 
 /// What `check` answers, and where its run ends, is a function of the feed and the certificates.
 pub fn check_is_one()
@@ -20,4 +20,9 @@ pub fn settle_is_one()
 /// What `drill` writes is a function of the sample feed's number and of its ticks.
 pub fn drill_is_one()
     ensures { DrillIsOne }
+{}
+
+/// `drill` counts as many answers as ticks were asked for.
+pub fn drill_answers_every_tick()
+    ensures { DrillAnswersEveryTick }
 {}

@@ -8,6 +8,7 @@ ghost use Rattle.vx_cli.specs.Runs.{IsExitOf, OpensFor, SendsFor};
 ghost use Rattle.vx_cli.specs.Words.{command_of};
 
 use crate::check::check_files;
+use crate::drill::drill_sample;
 use crate::make::send_sample;
 use crate::replay::replay_files;
 use crate::request::{Request, read_request};
@@ -18,8 +19,8 @@ use vx_num::NoMemory;
 
 /// Runs the command that the words ask for, those after the program's name.
 ///
-/// Today it runs `replay FEED CERTS`, `check FEED CERTS` and `make NUMBER TICKS`; the words of every other
-/// command are answered with `Usage`.
+/// Today it runs `replay FEED CERTS`, `check FEED CERTS`, `make NUMBER TICKS` and `drill NUMBER TICKS`; the words
+/// of every other command are answered with `Usage`.
 pub fn run<D: Desk>(alloc: Global, words: &[String], desk: &mut D) -> Exit
     requires closed { OnlyOutIsOpen (D.told desk.old) }
     // Usage comes exactly by the words, save that want of memory may come in its place.
@@ -41,6 +42,7 @@ pub fn run<D: Desk>(alloc: Global, words: &[String], desk: &mut D) -> Exit
         Ok(Some(Request::Replay { feed, certs })) => replay_files(alloc, desk, feed, certs),
         Ok(Some(Request::Check { feed, certs })) => check_files(alloc, desk, feed, certs),
         Ok(Some(Request::Make { number, ticks })) => send_sample(alloc, desk, number, ticks),
+        Ok(Some(Request::Drill { number, ticks })) => drill_sample(alloc, desk, number, ticks),
         Ok(None) => Exit::Usage,
         Err(NoMemory) => Exit::NoMemory,
     }

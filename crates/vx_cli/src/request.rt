@@ -2,9 +2,9 @@
 
 ghost use Rattle.std.specs.Prelude.{◌≡◌, ◌<◌, ◌≤◌, true, IfOk, IfSome, map, option_and_then, option_map, string_bytes};
 ghost use Rattle.std.specs.List.{list_all};
-ghost use Rattle.vx_cli.specs.Requests.{IsInRange, asked};
-ghost use Rattle.vx_cli.specs.Words.{check_form, command_of, is_plain_word, make_form, named_form, number_of, replay_form};
-ghost use Rattle.vx_cli.specs.Words.{ticks_of, two_files, two_of};
+ghost use Rattle.vx_cli.specs.Requests.{IsInRange, IsSample, asked};
+ghost use Rattle.vx_cli.specs.Words.{check_form, command_of, drill_form, is_plain_word, make_form, named_form};
+ghost use Rattle.vx_cli.specs.Words.{number_of, replay_form, sample_of, ticks_of, two_files, two_of};
 
 use crate::operands::two_operands;
 use std::alloc::Global;
@@ -20,6 +20,8 @@ pub(crate) enum Request<'a> {
     Check { feed: &'a str, certs: &'a str },
     /// Send the sample feed of a number below 2^31, with so many ticks, 1 to 390.
     Make { number: u32, ticks: u32 },
+    /// Count the answers to the ticks of such a feed.
+    Drill { number: u32, ticks: u32 },
 }
 
 /// Whether a word is not empty and does not begin with `-`.
@@ -102,11 +104,11 @@ fn read_ticks(word: &str) -> Option<u32>
     Some(ticks as u32)
 }
 
-/// Reads the operands of `make`.
-fn read_make<'a>(alloc: Global, operands: &'a [String]) -> Result<Option<Request<'a>>, NoMemory>
+/// Reads the number and the ticks of a sample feed.
+fn read_sample(alloc: Global, operands: &[String]) -> Result<Option<(u32, u32)>, NoMemory>
     requires { list_all is_plain_word (map string_bytes operands.now) ≡ true }
-    ensures asked { IfOk result (λ r. option_map asked r ≡ make_form (map string_bytes operands.now)) }
-    ensures in_range { IfOk result (λ r. IfSome r IsInRange) }
+    ensures value { IfOk result (λ r. r ≡ option_and_then sample_of (two_of (map string_bytes operands.now))) }
+    ensures in_range { IfOk result (λ r. IfSome r (λ sample. IsSample sample.0 sample.1)) }
 {
     let Some((number, ticks)) = two_operands(alloc, operands)? else {
         return Ok(None);
@@ -117,7 +119,31 @@ fn read_make<'a>(alloc: Global, operands: &'a [String]) -> Result<Option<Request
     let Some(ticks) = read_ticks(ticks) else {
         return Ok(None);
     };
+    Ok(Some((number, ticks)))
+}
+
+/// Reads the operands of `make`.
+fn read_make<'a>(alloc: Global, operands: &'a [String]) -> Result<Option<Request<'a>>, NoMemory>
+    requires { list_all is_plain_word (map string_bytes operands.now) ≡ true }
+    ensures asked { IfOk result (λ r. option_map asked r ≡ make_form (map string_bytes operands.now)) }
+    ensures in_range { IfOk result (λ r. IfSome r IsInRange) }
+{
+    let Some((number, ticks)) = read_sample(alloc, operands)? else {
+        return Ok(None);
+    };
     Ok(Some(Request::Make { number, ticks }))
+}
+
+/// Reads the operands of `drill`.
+fn read_drill<'a>(alloc: Global, operands: &'a [String]) -> Result<Option<Request<'a>>, NoMemory>
+    requires { list_all is_plain_word (map string_bytes operands.now) ≡ true }
+    ensures asked { IfOk result (λ r. option_map asked r ≡ drill_form (map string_bytes operands.now)) }
+    ensures in_range { IfOk result (λ r. IfSome r IsInRange) }
+{
+    let Some((number, ticks)) = read_sample(alloc, operands)? else {
+        return Ok(None);
+    };
+    Ok(Some(Request::Drill { number, ticks }))
 }
 
 /// Reads the operands that the command of a name has.
@@ -136,6 +162,8 @@ fn read_operands<'a>(
         read_check(alloc, operands)
     } else if name == "make" {
         read_make(alloc, operands)
+    } else if name == "drill" {
+        read_drill(alloc, operands)
     } else {
         Ok(None)
     }
