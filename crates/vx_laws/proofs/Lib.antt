@@ -6,3 +6,4 @@ pub mod EventRanges
 pub mod ReadingLemmas
 pub mod TickOutcomes
 pub mod SampleTextProofs
+pub mod CertificateProofs

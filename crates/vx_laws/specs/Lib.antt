@@ -5,3 +5,4 @@ pub mod OrderExamples
 pub mod LawfulPrefixes
 pub mod TickOutcomes
 pub mod SampleText
+pub mod Certificates
