@@ -7,3 +7,4 @@ pub mod ReadingLemmas
 pub mod TickOutcomes
 pub mod SampleTextProofs
 pub mod CertificateProofs
+pub mod CertificateLineProofs

@@ -6,3 +6,4 @@ pub mod LawfulPrefixes
 pub mod TickOutcomes
 pub mod SampleText
 pub mod Certificates
+pub mod CertificateLines

@@ -1,5 +1,6 @@
 //! Worked certificates over the first sample feed. Each function does nothing: its clauses are the example.
 
+ghost use Rattle.vx_laws.specs.CertificateLines.{LevelLineIsRead, SingleLineIsRead};
 ghost use Rattle.vx_laws.specs.Certificates.{LevelIsAccepted, WrongLineFails, WrongPairFails, LowLevelFails, FirstVersionIsAccepted, HighTaylorFails, OtherVersionFails, LowRowFails, WideEndsFail, SecondVersionIsAccepted};
 
 /// A certificate of kind `k0`, accepted; and with another line, pair or level the first test that it fails.
@@ -19,4 +20,10 @@ pub fn single_certificates()
     ensures other_version { OtherVersionFails }
     ensures low_row { LowRowFails }
     ensures wide_ends { WideEndsFail }
+{}
+
+/// The lines of the certificates of kinds `k0` and `single` are read as them.
+pub fn certificate_lines()
+    ensures level { LevelLineIsRead }
+    ensures single { SingleLineIsRead }
 {}

@@ -9,6 +9,6 @@ mod days;
 mod feeds;
 
 pub use answers::tick_is_answered;
-pub use certificates::{level_certificates, single_certificates};
+pub use certificates::{certificate_lines, level_certificates, single_certificates};
 pub use days::{crossed_quote, sample_feed, sample_text, terms_of_none, two_terms};
 pub use feeds::{lawful_prefixes, order_decides};
