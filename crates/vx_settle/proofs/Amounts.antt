@@ -58,6 +58,11 @@ both_fit gain cents quantity h k q =
     let first : nat_abs (gain *ℤ pos cents) ≤ 2 ^ 32 * 10 = omega (arith, unsigned_abs-mul gain (pos cents), mul-le-mul h k) in
     fits_signed_mul w128 (gain *ℤ pos cents) quantity (2 ^ 32 * 10) 1000000 first q (lit< tt)
 
+amount_within : (gain : ℤ) (cents : ℕ) (quantity : ℤ) → nat_abs gain ≤ 2 ^ 32 → cents ≤ 10 → nat_abs quantity ≤ 1000000 → nat_abs (gain *ℤ pos cents *ℤ quantity) ≤ 2 ^ 56
+amount_within gain cents quantity h k q =
+    let first : nat_abs (gain *ℤ pos cents) ≤ 2 ^ 32 * 10 = omega (arith, unsigned_abs-mul gain (pos cents), mul-le-mul h k) in
+    omega (arith, unsigned_abs-mul (gain *ℤ pos cents) quantity, mul-le-mul first q)
+
 first_is : (gain : ℤ) (cents : ℕ) → nat_abs gain ≤ 2 ^ 32 → cents ≤ 10 → to_z w128 (of_z w128 gain) *ℤ to_z w128 (of_z w128 (pos cents)) ≡ gain *ℤ pos cents
 first_is gain cents h k = λ i. to_z-of_z w128 gain (gain_fits gain h) i *ℤ to_z-of_z w128 (pos cents) (cents_fit cents k) i
 
@@ -77,6 +82,11 @@ amount_is gain wide_cents wide_quantity cents quantity e f h k q =
     (λ i. to_z w128 (of_z w128 (to_z w128 (of_z w128 (to_z w128 (of_z w128 gain) *ℤ to_z w128 (of_z w128 (e i)))) *ℤ to_z w128 (of_z w128 (f i)))))
     ∙ (ap (λ z. to_z w128 (of_z w128 z)) (both_are gain cents quantity h k q) ∙ to_z-of_z w128 (gain *ℤ pos cents *ℤ quantity) (both_fit gain cents quantity h k q))
 
--- a quantity in range keeps its value in 32 bits
+-- and what they make is below 2 ^ 56
+pub amount_bound : (gain wide_cents wide_quantity : ℤ) (cents : ℕ) (quantity : ℤ) → wide_cents ≡ pos cents → wide_quantity ≡ quantity → nat_abs gain ≤ 2 ^ 32 → cents ≤ 10 → nat_abs quantity ≤ 1000000
+    → nat_abs (to_z w128 (of_z w128 (to_z w128 (of_z w128 (to_z w128 (of_z w128 gain) *ℤ to_z w128 (of_z w128 wide_cents))) *ℤ to_z w128 (of_z w128 wide_quantity)))) ≤ 2 ^ 56
+amount_bound gain wide_cents wide_quantity cents quantity e f h k q =
+    subst (λ (z : ℤ). nat_abs z ≤ 2 ^ 56) (sym (amount_is gain wide_cents wide_quantity cents quantity e f h k q)) (amount_within gain cents quantity h k q)
+
 pub quantity_is : (quantity : ℤ) → nat_abs quantity ≤ 1000000 → to_z w32 (of_z w32 quantity) ≡ quantity
 quantity_is quantity q = to_z-of_z w32 quantity (fits_signed_from_abs w32 quantity (omega arith))

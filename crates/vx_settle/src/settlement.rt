@@ -31,11 +31,12 @@ fn gain(c: u64, last: u32) -> i128
 /// price, times dollars a point, times the quantity. Below zero where it is paid.
 ///
 /// Takes no memory. Both contracts have a whole number of hundreds of dollars a point, so the amount is
-/// whole.
+/// whole. It is below 2^56 in absolute value.
 pub fn amount(c: u64, p: &Position) -> i128
     requires figure { c ≤ CENTS_MAX }
     requires in_range { IsPositionInRange p.now }
-    ensures { IsAmount c p.now result }
+    ensures value { IsAmount c p.now result }
+    ensures bound { nat_abs result ≤ 2 ^ 56 }
 {
     gain(c, p.last) * i128::from(cents_a_unit(p.contract)) * i128::from(p.quantity)
 }
