@@ -66,3 +66,9 @@ out_not_certs e = cc
 
 pub feed_not_certs : Feed ≢ Certs
 feed_not_certs e = cc
+
+pub certs_not_side : (slot : Slot) → slot ≡ Side → Certs ≢ slot
+certs_not_side slot is e = cc
+
+pub side_not_certs : Side ≢ Certs
+side_not_certs e = cc

@@ -5,7 +5,8 @@ mod CertificateLemmas
 pub mod ExitLemmas
 mod FailureLemmas
 pub mod OneRun
-pub mod RunIsThere
+pub mod PositionLawLemmas
+pub mod PositionRunLemmas
 pub mod RunLemmas
 pub mod SendingLemmas
 pub mod TickLawLemmas

@@ -21,16 +21,28 @@ use Rattle.vx_drivers.proofs.CauseLemmas.{cause_one}
 
 -- ---- endings are told apart
 
-abbrev line_of : Ending → LineCause
-line_of at_end = line.TooLong
-line_of too_long = line.TooLong
-line_of no_eol = line.NoEol
-line_of too_many = line.TooMany
+abbrev pub line_of : BadCause → FeedCause
+line_of (text.of_fault fault) = feed_cause.Event fault
+line_of text.too_long = feed_cause.TooLong
+line_of text.no_eol = feed_cause.NoEol
+line_of text.missing_end = feed_cause.MissingEnd
 
-line_of-ending : (why : LineCause) → line_of (ending_for why) ≡ why
-line_of-ending line.TooLong = refl
-line_of-ending line.NoEol = refl
-line_of-ending line.TooMany = refl
+pub line_of-cause : (why : FeedCause) → line_of (bad_cause why) ≡ why
+line_of-cause (feed_cause.Event fault) = refl
+line_of-cause feed_cause.TooLong = refl
+line_of-cause feed_cause.NoEol = refl
+line_of-cause feed_cause.MissingEnd = refl
+
+abbrev cause_of : Ending → LineCause
+cause_of at_end = line.TooLong
+cause_of too_long = line.TooLong
+cause_of no_eol = line.NoEol
+cause_of too_many = line.TooMany
+
+cause_of-ending : (why : LineCause) → cause_of (ending_for why) ≡ why
+cause_of-ending line.TooLong = refl
+cause_of-ending line.NoEol = refl
+cause_of-ending line.TooMany = refl
 
 not_at_end : (why : LineCause) → ending_for why ≡ at_end → ⊥
 not_at_end line.TooLong h = cc
@@ -40,16 +52,16 @@ not_at_end line.TooMany h = cc
 same_bad : (a b : Option BadLine) (m n : BadLine) → a ≡ Some m → a ≡ Some n → m ≡ n
 same_bad a b m n h k = cc
 
-same_head : (x y : List ℕ) (xs ys : List (List ℕ)) → x ∷ xs ≡ y ∷ ys → x ≡ y
+pub same_head : (x y : List ℕ) (xs ys : List (List ℕ)) → x ∷ xs ≡ y ∷ ys → x ≡ y
 same_head x y xs ys h = cc
 
-same_tail : (x y : List ℕ) (xs ys : List (List ℕ)) → x ∷ xs ≡ y ∷ ys → xs ≡ ys
+pub same_tail : (x y : List ℕ) (xs ys : List (List ℕ)) → x ∷ xs ≡ y ∷ ys → xs ≡ ys
 same_tail x y xs ys h = cc
 
 not_empty : (x : List ℕ) (xs ys : List (List ℕ)) → ys ≡ x ∷ xs → ys ≡ [] → ⊥
 not_empty x xs ys h k = cc
 
-same_lines : (a b : TextLines) → a.lines ≡ b.lines → a.ending ≡ b.ending → a ≡ b
+pub same_lines : (a b : TextLines) → a.lines ≡ b.lines → a.ending ≡ b.ending → a ≡ b
 same_lines a b p q = λ i. record { lines = p i; ending = q i }
 
 not_done : (count : ℕ) → 1 ≤ count → (count == 0) ≡ false

@@ -327,7 +327,7 @@ pub allowed_ended : (m : ℕ) (ending : Ending) (before : Option TextLines) → 
 allowed_ended m ending None h = tt
 allowed_ended m ending (Some r) h = ap (at_most m) h ∙ at_most_ended m ending
 
-coming_kept : (slot : Slot) (reader : ReaderState) (before after : Slot → Told) → reader.slot ≡ slot → after slot ≡ before slot → coming reader after ≡ coming reader before
+pub coming_kept : (slot : Slot) (reader : ReaderState) (before after : Slot → Told) → reader.slot ≡ slot → after slot ≡ before slot → coming reader after ≡ coming reader before
 coming_kept slot reader before after is same =
     let told : after reader.slot ≡ before reader.slot = subst (λ (s : Slot). after s ≡ before s) (sym is) same in
     ap (λ (t : Told). option_map (lines_of reader.limit) (to_come reader t)) told
@@ -344,11 +344,11 @@ pub takes_is : (before after : Option TextLines) (reader : ReaderState) (found :
     → before ≡ option_map (line_then reader.last_bytes) after
 takes_is before after reader found line takes is = subst (λ (o : Option Line). TakesLine before after reader (Ok o)) is takes
 
-nothing_waits : (left : Option (List ℕ)) → prepend_known [] left ≡ left
+pub nothing_waits : (left : Option (List ℕ)) → prepend_known [] left ≡ left
 nothing_waits None = refl
 nothing_waits (Some bytes) = refl
 
-twice : {A B D : Type 0} (f : A → B) (h : B → D) (o : Option A) → option_map (λ x. h (f x)) o ≡ option_map h (option_map f o)
+pub twice : {A B D : Type 0} (f : A → B) (h : B → D) (o : Option A) → option_map (λ x. h (f x)) o ≡ option_map h (option_map f o)
 twice f h None = refl
 twice f h (Some x) = refl
 

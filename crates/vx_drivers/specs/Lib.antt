@@ -6,6 +6,10 @@ pub mod CertificateLaws
 pub mod CertificateRun
 pub mod CertificateSteps
 pub mod Exits
+pub mod PositionExits
+pub mod PositionLaws
+pub mod PositionRun
+pub mod PositionSteps
 pub mod Sending
 pub mod TickExits
 pub mod TickLaws

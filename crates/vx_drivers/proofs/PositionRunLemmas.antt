@@ -1,0 +1,514 @@
+-- A run that settles positions, from its start to its end.
+use Rattle.std.proofs.Common.{◌≡◌, ◌∙◌, sym, ap, subst, refl, ℕ, ◌+◌, ◌-◌, ◌<◌, ◌≤◌, ◌⊎◌, inl, inr, Bool, true, false, List, [], ◌∷◌, ◌++◌, length, take, drop, Option, Some, None, IfSome, arith, Result, Ok, Err}
+use Rattle.std.specs.Option.{option_map}
+use Rattle.std.proofs.lemmas.List.{append-nil, append_assoc, take-append-drop}
+use Rattle.vx_lines.specs.TextLines.{TextLines, at_end, at_most, ended, line_then, lines_of, lines_then, no_eol, too_long, too_many}
+use Rattle.vx_lines.proofs.LineLemmas.{lines_then-push}
+use Rattle.vx_desk.specs.declared.device.Slot.{Slot}
+use Rattle.vx_desk.specs.declared.device.Slot.TheVariants.{Side, Out, Certs}
+use Rattle.vx_desk.specs.Coming.{IsReader, coming}
+use Rattle.vx_desk.specs.Lines.{ReaderState}
+use Rattle.vx_desk.specs.Told.{Told}
+use Rattle.vx_feed.specs.declared.events.Event.{Event}
+use Rattle.vx_feed.specs.Feed.{Reading, stopped_at}
+use Rattle.vx_settle.specs.declared.fault.PositionFault.{PositionFault}
+use Rattle.vx_reading.specs.declared.feed.FeedReader.{FeedReader}
+use Rattle.vx_reading.specs.declared.stop.FeedStop.{FeedStop}
+use Rattle.vx_reading.specs.declared.stop.FeedStop.TheVariants as stop
+use Rattle.vx_reading.specs.FeedReading.{ReadsAll, Says, all_good, feed_told}
+use Rattle.vx_reading.specs.Stops.{bad_cause}
+use Rattle.vx_drivers.specs.declared.exit.Exit.{Exit}
+use Rattle.vx_drivers.specs.declared.exit.Exit.TheVariants.{Done, BadFeed, BadPositions}
+use Rattle.vx_drivers.specs.declared.exit.PositionCause.{PositionCause}
+use Rattle.vx_drivers.specs.declared.exit.PositionCause.TheVariants as cause
+use Rattle.vx_drivers.specs.declared.limits.TheConstants.{POSITION_LINES_MAX, POSITION_LINE_LEN_MAX}
+use Rattle.vx_drivers.specs.declared.position_run.PositionRun.{PositionRun}
+use Rattle.vx_drivers.specs.Along.{Along}
+use Rattle.vx_drivers.specs.Exits.{exit_of_stop, is_cut}
+use Rattle.vx_drivers.specs.PositionExits.{IsPositionExit}
+use Rattle.vx_drivers.specs.PositionRun.{GivesPositionParts, NextIsBad, PositionRules, RunsPositionsBy, RunsPositionsIf, Settles, SettledBefore, items_from, positions_of, settled_text}
+use Rattle.vx_drivers.specs.PositionSteps.{AddsItem, CutsItem, EndsAtFault, HasEndedPositions, HasOpened, IsSettling, IsThroughPositions, OpensSheet, SendsItem, SettlesLine, allowed_positions, positions_told}
+use Rattle.vx_drivers.specs.Sending.{CutsOff, Sent, SendsOr, Text}
+use Rattle.vx_drivers.specs.TickSteps.{CutsBoth}
+use Rattle.vx_drivers.proofs.AlongLemmas.{along_more}
+use Rattle.vx_drivers.proofs.RunLemmas.{allowed_line, coming_kept, nothing_waits, twice}
+use Rattle.vx_drivers.proofs.SendingLemmas.{sent_more, sent_none, sent_still}
+
+-- ---- lines that are told, or some where none are
+
+same_some : {A : Type 0} {a b : A} → Some a ≡ Some b → a ≡ b
+same_some h = cc
+
+-- first lines and a rest are the positions
+said_first : (positions rest : Option TextLines) (lines : List (List ℕ)) (left : TextLines) → positions ≡ option_map (lines_then lines) rest
+    → IfSome rest (λ r. r ≡ left) → IfSome positions (λ p. p ≡ lines_then lines left)
+said_first None rest lines left first is = tt
+said_first (Some p) None lines left first is = absurd (let no : ⊥ = cc in no)
+said_first (Some p) (Some r) lines left first is = same_some first ∙ ap (lines_then lines) is
+
+record Left (rest : Option TextLines) : Type 0 where
+  left : TextLines
+  left_is : IfSome rest (λ r. r ≡ left)
+
+some_left : (rest : Option TextLines) → Left rest
+some_left None = record { left = ended at_end; left_is = tt }
+some_left (Some r) = record { left = r; left_is = refl }
+
+first_told : (positions : Option TextLines) → positions ≡ option_map (lines_then []) positions
+first_told None = refl
+first_told (Some p) = refl
+
+first_more : (positions rest new : Option TextLines) (lines : List (List ℕ)) (text : List ℕ) → positions ≡ option_map (lines_then lines) rest
+    → rest ≡ option_map (line_then text) new → positions ≡ option_map (lines_then (lines ++ text ∷ [])) new
+first_more positions rest None lines text first is = first ∙ ap (option_map (lines_then lines)) is
+first_more positions rest (Some r) lines text first is =
+    first ∙ ap (option_map (lines_then lines)) is ∙ ap (λ t. Some t) (sym (lines_then-push lines text r))
+
+-- the line that comes next, of those that are left
+next_left : (rest new : Option TextLines) (text : List ℕ) (after : Left new) → rest ≡ option_map (line_then text) new → IfSome rest (λ r. r ≡ line_then text after.left)
+next_left rest None text after is = subst (λ o. IfSome o (λ r. r ≡ line_then text after.left)) (sym is) tt
+next_left rest (Some r) text after is =
+    subst (λ o. IfSome o (λ t. t ≡ line_then text after.left)) (sym is) (ap (line_then text) after.left_is)
+
+-- ---- the texts
+
+append_part : (first text : Text) (n : ℕ) → (first ++ take n text) ++ drop n text ≡ first ++ text
+append_part first text n = append_assoc first (take n text) (drop n text) ∙ ap (λ t. first ++ t) (take-append-drop n text)
+
+module _ {A I : Type 0} (rules : PositionRules A I) where
+  items_more : (number : ℕ) (items : List I) (item : I)
+      → items_from rules number (items ++ item ∷ []) ≡ items_from rules number items ++ rules.item_line (number + length items) item
+  items_more number [] item =
+      let same : number ≡ number + length {A = I} [] = omega arith in
+      append-nil (rules.item_line number item) ∙ ap (λ n. rules.item_line n item) same
+  items_more number (x ∷ items) item =
+      let same : number + 1 + length items ≡ number + length (x ∷ items) = omega arith in
+      ap (λ t. rules.item_line number x ++ t) (items_more (number + 1) items item)
+      ∙ sym (append_assoc (rules.item_line number x) (items_from rules (number + 1) items) (rules.item_line (number + 1 + length items) item))
+      ∙ ap (λ n. (rules.item_line number x ++ items_from rules (number + 1) items) ++ rules.item_line n item) same
+
+  settled_more : (answer : A) (items : List I) (item : I)
+      → settled_text rules answer (items ++ item ∷ []) ≡ settled_text rules answer items ++ rules.item_line (length items + 1) item
+  settled_more answer items item =
+      let same : 1 + length items ≡ length items + 1 = omega arith in
+      ap (λ t. rules.line answer ++ t) (items_more 1 items item ∙ ap (λ n. items_from rules 1 items ++ rules.item_line n item) same)
+      ∙ sym (append_assoc (rules.line answer) (items_from rules 1 items) (rules.item_line (length items + 1) item))
+
+  settled_none : (answer : A) → settled_text rules answer [] ≡ rules.line answer
+  settled_none answer = append-nil (rules.line answer)
+
+  -- ---- runs that are cut off
+
+  cut_by : (over : Reading) (lines : TextLines) (exit : Exit) (out certs : Text) → is_cut exit ≡ true → GivesPositionParts rules over lines out certs
+      → RunsPositionsBy rules over lines exit out certs
+  cut_by over lines exit out certs cut parts = subst (λ b. RunsPositionsIf rules over lines exit out certs b) (sym cut) parts
+
+  no_feed : (feed : Option Reading) → (over : Reading) × Says feed over
+  no_feed None = (all_good [], tt)
+  no_feed (Some f) = (f, refl)
+
+  -- nothing was sent, and the run is cut off
+  pub nothing_sent : (feed : Option Reading) (positions : Option TextLines) (before now : Slot → Told) (exit : Exit)
+      → now Out ≡ before Out → now Certs ≡ before Certs → is_cut exit ≡ true → HasEndedPositions rules feed positions before now exit
+  nothing_sent feed positions before now exit out_same certs_same cut =
+      let over = no_feed feed in
+      let all = some_left positions in
+      record {
+        over = over.0;
+        feed_is = over.1;
+        lines = all.left;
+        lines_are = all.left_is;
+        out = [];
+        certs = [];
+        runs = cut_by over.0 all.left exit [] [] cut (inl (refl, refl));
+        out_sent = sent_none (before Out) (now Out) out_same;
+        certs_sent = sent_none (before Certs) (now Certs) certs_same;
+      }
+
+  -- the feed is not read to its end
+  pub feed_stops : {B : Type 0} (StandsFor : B → List Event → Type 0) (feed : Option Reading) (positions : Option TextLines) (reader : FeedReader B)
+      (before now : Slot → Told) (why : FeedStop) → now Out ≡ before Out → now Certs ≡ before Certs
+      → ReadsAll StandsFor feed reader now (Err why) → HasEndedPositions rules feed positions before now (exit_of_stop why)
+  feed_stops StandsFor feed positions reader before now (stop.BadLine number why) out_same certs_same (is_cause, events, numbered, says) =
+      let all = some_left positions in
+      record {
+        over = stopped_at events (bad_cause why);
+        feed_is = says;
+        lines = all.left;
+        lines_are = all.left_is;
+        out = [];
+        certs = [];
+        runs = (why, ap (λ n. BadFeed n why) numbered, refl, refl, refl);
+        out_sent = sent_none (before Out) (now Out) out_same;
+        certs_sent = sent_none (before Certs) (now Certs) certs_same;
+      }
+  feed_stops StandsFor feed positions reader before now stop.Device out_same certs_same reads =
+      nothing_sent feed positions before now (exit_of_stop stop.Device) out_same certs_same refl
+  feed_stops StandsFor feed positions reader before now stop.NoMemory out_same certs_same reads =
+      nothing_sent feed positions before now (exit_of_stop stop.NoMemory) out_same certs_same refl
+
+  -- first parts of what the opening and some lines give
+  gives_part : (events : List Event) (answer : A) (items : List I) (lines : List (List ℕ)) (left : TextLines) (last out out_more certs certs_more : Text) (exit : Exit)
+      → rules.IsOpening events answer → Along (Settles rules answer) [] lines items
+      → (last ≡ []) ⊎ ((left ≡ ended at_end) × (last ≡ rules.last_lines answer items))
+      → out ++ out_more ≡ settled_text rules answer items ++ last → certs ++ certs_more ≡ rules.certificate answer
+      → (out ≡ []) ⊎ (certs_more ≡ []) → is_cut exit ≡ true
+      → RunsPositionsBy rules (all_good events) (lines_then lines left) exit out certs
+  gives_part events answer items lines left last out out_more certs certs_more exit opening steps last_is out_is certs_are whole cut =
+      cut_by (all_good events) (lines_then lines left) exit out certs cut (inr (record {
+        no_bad = refl;
+        out_more = out_more;
+        certs_more = certs_more;
+        gives = record {
+          answer = answer;
+          is_opening = opening;
+          items = items;
+          rest = left;
+          before = record { lines = lines; are_first = refl; steps = steps };
+          last = last;
+          last_is = last_is;
+          out_is = out_is;
+          certs_are = certs_are;
+        };
+        whole = whole;
+      }))
+
+  module _ {S : Type 0} (StandsAt : S → A → List I → Type 0) where
+    -- ---- one line
+
+    -- a line that is no position ends the run
+    pub fault_ends : (answer : A) (items : List I) (text : List ℕ) (told : Told) (run : PositionRun S) (count : ℕ) (fault : PositionFault) (exit : Exit)
+        → count ≡ length items → exit ≡ BadPositions (count + 1) (cause.Fault fault) → rules.ComesTo answer text (Err fault)
+        → SettlesLine rules StandsAt answer items text run told told (Err exit)
+    fault_ends answer items text told run count fault exit same exit_is comes = inl (
+      inr (record { fault = fault; exit_is = exit_is ∙ ap (λ n. BadPositions (n + 1) (cause.Fault fault)) same; comes = comes }),
+      refl,
+    )
+
+    -- what the output says of a line is sent, or a first part of it
+    pub item_sent : (answer : A) (items : List I) (text : List ℕ) (line : Text) (sheet : S) (run : PositionRun S) (before after : Told) (result : Result Unit Exit)
+        → AddsItem rules StandsAt answer items text line sheet → run.sheet ≡ sheet → SendsOr Out line before after result
+        → SettlesLine rules StandsAt answer items text run before after result
+    item_sent answer items text line sheet run before after (Ok u) adds sheet_is sends = record {
+      item = adds.item;
+      comes = adds.comes;
+      stands = subst (λ (s : S). StandsAt s answer (items ++ adds.item ∷ [])) (sym sheet_is) adds.stands;
+      sent = subst (λ (t : Text). Sent t before after) adds.line_is sends;
+    }
+    item_sent answer items text line sheet run before after (Err exit) adds sheet_is sends = inr (record {
+      item = adds.item;
+      comes = adds.comes;
+      cut = subst (λ (t : Text). CutsOff Out t before after exit) adds.line_is sends;
+    })
+
+    -- ---- the opening
+
+    -- a write of one of its texts fails
+    pub opening_cut : (feed : Option Reading) (positions : Option TextLines) (events : List Event) (certificate line : Text) (sheet : S)
+        (before read now : Slot → Told) (exit : Exit) → Says feed (all_good events) → OpensSheet rules StandsAt events certificate line sheet
+        → read Out ≡ before Out → read Certs ≡ before Certs → CutsBoth certificate line read now exit
+        → HasEndedPositions rules feed positions before now exit
+    opening_cut feed positions events certificate line sheet before read now exit says opens out_same certs_same (inl (cut, same)) =
+        let all = some_left positions in
+        let part = take cut.part.count certificate in
+        record {
+          over = all_good events;
+          feed_is = says;
+          lines = lines_then [] all.left;
+          lines_are = said_first positions positions [] all.left (first_told positions) all.left_is;
+          out = [];
+          certs = part;
+          runs = gives_part events opens.answer [] [] all.left [] [] (settled_text rules opens.answer []) part (drop cut.part.count certificate) exit
+              opens.is_opening refl (inl refl) (sym (append-nil (settled_text rules opens.answer [])))
+              (take-append-drop cut.part.count certificate ∙ opens.certificate_is) (inl refl) (ap is_cut cut.exit_is);
+          out_sent = sent_none (before Out) (now Out) (same ∙ out_same);
+          certs_sent = subst (λ (t : Told). Sent part t (now Certs)) certs_same cut.part.sent;
+        }
+    opening_cut feed positions events certificate line sheet before read now exit says opens out_same certs_same (inr (sent, cut)) =
+        let all = some_left positions in
+        let part = take cut.part.count line in
+        record {
+          over = all_good events;
+          feed_is = says;
+          lines = lines_then [] all.left;
+          lines_are = said_first positions positions [] all.left (first_told positions) all.left_is;
+          out = part;
+          certs = certificate;
+          runs = gives_part events opens.answer [] [] all.left [] part (drop cut.part.count line) certificate [] exit
+              opens.is_opening refl (inl refl)
+              (take-append-drop cut.part.count line ∙ opens.line_is ∙ sym (settled_none opens.answer) ∙ sym (append-nil (settled_text rules opens.answer [])))
+              (append-nil certificate ∙ opens.certificate_is) (inr refl) (ap is_cut cut.exit_is);
+          out_sent = subst (λ (t : Told). Sent part t (now Out)) out_same cut.part.sent;
+          certs_sent = subst (λ (t : Told). Sent certificate t (now Certs)) certs_same sent;
+        }
+
+    -- both are sent
+    pub opening_sent : (feed : Option Reading) (events : List Event) (certificate line : Text) (sheet : S) (run : PositionRun S)
+        (before read now : Slot → Told) → Says feed (all_good events) → OpensSheet rules StandsAt events certificate line sheet
+        → read Out ≡ before Out → read Certs ≡ before Certs → Sent certificate (read Certs) (now Certs) → Sent line (read Out) (now Out)
+        → run.sheet ≡ sheet → run.count ≡ 0 → HasOpened rules StandsAt feed before run now
+    opening_sent feed events certificate line sheet run before read now says opens out_same certs_same certs_sent out_sent sheet_is zero = record {
+      events = events;
+      feed_is = says;
+      answer = opens.answer;
+      is_opening = opens.is_opening;
+      sheet = subst (λ (s : S). StandsAt s opens.answer []) (sym sheet_is) opens.stands;
+      count = zero;
+      certs = subst (λ (t : Text). Sent t (before Certs) (now Certs)) opens.certificate_is (subst (λ (t : Told). Sent certificate t (now Certs)) certs_same certs_sent);
+      out = subst (λ (t : Text). Sent t (before Out) (now Out)) opens.line_is (subst (λ (t : Told). Sent line t (now Out)) out_same out_sent);
+    }
+
+    -- no line of positions was read yet
+    pub starts : (feed : Option Reading) (positions : Option TextLines) (before : Slot → Told) (run : PositionRun S) (now : Slot → Told) (rest : Option TextLines)
+        → HasOpened rules StandsAt feed before run now → rest ≡ positions → IsSettling rules StandsAt feed positions before run now rest
+    starts feed positions before run now rest opened same = record {
+      events = opened.events;
+      feed_is = opened.feed_is;
+      answer = opened.answer;
+      is_opening = opened.is_opening;
+      items = [];
+      lines = [];
+      are_first = first_told positions ∙ ap (option_map (lines_then [])) (sym same);
+      steps = refl;
+      sheet = opened.sheet;
+      count = opened.count;
+      certs = opened.certs;
+      out = subst (λ (t : Text). Sent t (before Out) (now Out)) (sym (settled_none opened.answer)) opened.out;
+    }
+
+    module _ (feed : Option Reading) (positions : Option TextLines) (before : Slot → Told) where
+      -- ---- one line more
+
+      -- the output and the file of certificates did not change
+      pub way_kept : (run : PositionRun S) (between now : Slot → Told) (rest : Option TextLines) → IsSettling rules StandsAt feed positions before run between rest
+          → now Out ≡ between Out → now Certs ≡ between Certs → IsSettling rules StandsAt feed positions before run now rest
+      way_kept run between now rest way out_same certs_same = record {
+        events = way.events;
+        feed_is = way.feed_is;
+        answer = way.answer;
+        is_opening = way.is_opening;
+        items = way.items;
+        lines = way.lines;
+        are_first = way.are_first;
+        steps = way.steps;
+        sheet = way.sheet;
+        count = way.count;
+        certs = sent_still (rules.certificate way.answer) (before Certs) (between Certs) (now Certs) way.certs certs_same;
+        out = sent_still (settled_text rules way.answer way.items) (before Out) (between Out) (now Out) way.out out_same;
+      }
+
+      -- the next line is settled
+      pub settled_on : (old run : PositionRun S) (between now : Slot → Told) (rest new : Option TextLines) (text : List ℕ)
+          (way : IsSettling rules StandsAt feed positions before old between rest) → rest ≡ option_map (line_then text) new → now Certs ≡ between Certs
+          → run.count ≡ old.count + 1 → SendsItem rules StandsAt way.answer way.items text run (between Out) (now Out)
+          → IsSettling rules StandsAt feed positions before run now new
+      settled_on old run between now rest new text way is certs_same more sends = record {
+        events = way.events;
+        feed_is = way.feed_is;
+        answer = way.answer;
+        is_opening = way.is_opening;
+        items = way.items ++ sends.item ∷ [];
+        lines = way.lines ++ text ∷ [];
+        are_first = first_more positions rest new way.lines text way.are_first is;
+        steps = along_more (Settles rules way.answer) [] way.lines text way.items (way.items ++ sends.item ∷ []) way.steps (sends.item, sends.comes, refl);
+        sheet = sends.stands;
+        count = more ∙ one_more way.items sends.item way.count;
+        certs = sent_still (rules.certificate way.answer) (before Certs) (between Certs) (now Certs) way.certs certs_same;
+        out = subst (λ (t : Text). Sent t (before Out) (now Out)) (sym (settled_more way.answer way.items sends.item))
+            (sent_more (settled_text rules way.answer way.items) (rules.item_line (length way.items + 1) sends.item) (before Out) (between Out) (now Out) way.out sends.sent);
+      }
+        where
+          one_more : (items : List I) (item : I) → old.count ≡ length items → old.count + 1 ≡ length (items ++ item ∷ [])
+          one_more items item is = ap (λ n. n + 1) is ∙ sym (pushed items item)
+            where
+              pushed : (items : List I) (item : I) → length (items ++ item ∷ []) ≡ length items + 1
+              pushed [] item = refl
+              pushed (x ∷ items) item = let h = pushed items item in omega (arith, h)
+
+      -- ---- ends
+
+      -- nothing more was sent, and the run is cut off
+      pub cut_short : (run : PositionRun S) (between now : Slot → Told) (rest : Option TextLines) (exit : Exit)
+          → IsSettling rules StandsAt feed positions before run between rest → now Out ≡ between Out → now Certs ≡ between Certs → is_cut exit ≡ true
+          → HasEndedPositions rules feed positions before now exit
+      cut_short run between now rest exit way out_same certs_same cut =
+          let after = some_left rest in
+          let text = settled_text rules way.answer way.items in
+          record {
+            over = all_good way.events;
+            feed_is = way.feed_is;
+            lines = lines_then way.lines after.left;
+            lines_are = said_first positions rest way.lines after.left way.are_first after.left_is;
+            out = text;
+            certs = rules.certificate way.answer;
+            runs = gives_part way.events way.answer way.items way.lines after.left [] text [] (rules.certificate way.answer) [] exit
+                way.is_opening way.steps (inl refl) refl (append-nil (rules.certificate way.answer)) (inr refl) cut;
+            out_sent = sent_still text (before Out) (between Out) (now Out) way.out out_same;
+            certs_sent = sent_still (rules.certificate way.answer) (before Certs) (between Certs) (now Certs) way.certs certs_same;
+          }
+
+      -- the next line is bad
+      bad_end : (run : PositionRun S) (between now : Slot → Told) (rest : Option TextLines) (left : TextLines) (number : ℕ) (why : PositionCause)
+          (way : IsSettling rules StandsAt feed positions before run between rest) → now Out ≡ between Out → now Certs ≡ between Certs
+          → number ≡ length way.items + 1 → IfSome rest (λ r. r ≡ left) → NextIsBad rules way.answer left why
+          → HasEndedPositions rules feed positions before now (BadPositions number why)
+      bad_end run between now rest left number why way out_same certs_same numbered is bad =
+          let text = settled_text rules way.answer way.items in
+          record {
+            over = all_good way.events;
+            feed_is = way.feed_is;
+            lines = lines_then way.lines left;
+            lines_are = said_first positions rest way.lines left way.are_first is;
+            out = text;
+            certs = rules.certificate way.answer;
+            runs = record {
+              answer = way.answer;
+              is_opening = way.is_opening;
+              items = way.items;
+              rest = left;
+              before = record { lines = way.lines; are_first = refl; steps = way.steps };
+              ends = (numbered, bad);
+              out_is = sym (append-nil text);
+              certs_are = refl;
+            };
+            out_sent = sent_still text (before Out) (between Out) (now Out) way.out out_same;
+            certs_sent = sent_still (rules.certificate way.answer) (before Certs) (between Certs) (now Certs) way.certs certs_same;
+          }
+
+      -- it is no line, or one too many
+      pub line_bad : (run : PositionRun S) (between now : Slot → Told) (rest : Option TextLines) (left : TextLines) (exit : Exit) (why : PositionCause)
+          → IsSettling rules StandsAt feed positions before run between rest → now Out ≡ between Out → now Certs ≡ between Certs
+          → exit ≡ BadPositions (run.count + 1) why → IfSome rest (λ r. r ≡ left) → ((answer : A) → NextIsBad rules answer left why)
+          → HasEndedPositions rules feed positions before now exit
+      line_bad run between now rest left exit why way out_same certs_same exit_is is bad =
+          subst (λ (e : Exit). HasEndedPositions rules feed positions before now e) (sym exit_is)
+          (bad_end run between now rest left (run.count + 1) why way out_same certs_same (ap (λ n. n + 1) way.count) is (bad way.answer))
+
+      -- the run ended at a line
+      pub line_ended : (old run : PositionRun S) (between now : Slot → Told) (rest new : Option TextLines) (text : List ℕ) (exit : Exit)
+          (way : IsSettling rules StandsAt feed positions before old between rest) → rest ≡ option_map (line_then text) new → now Certs ≡ between Certs
+          → SettlesLine rules StandsAt way.answer way.items text run (between Out) (now Out) (Err exit)
+          → HasEndedPositions rules feed positions before now exit
+      line_ended old run between now rest new text exit way is certs_same (inl (inl cut, same)) = cut_short old between now rest exit way same certs_same cut
+      line_ended old run between now rest new text exit way is certs_same (inl (inr h, same)) =
+          let after = some_left new in
+          subst (λ (e : Exit). HasEndedPositions rules feed positions before now e) (sym h.exit_is)
+          (bad_end old between now rest (line_then text after.left) (length way.items + 1) (cause.Fault h.fault) way same certs_same refl
+          (next_left rest new text after is) (text, after.left, refl, h.comes))
+      line_ended old run between now rest new text exit way is certs_same (inr h) =
+          let after = some_left new in
+          let line = rules.item_line (length way.items + 1) h.item in
+          let first = settled_text rules way.answer way.items in
+          let items = way.items ++ h.item ∷ [] in
+          record {
+            over = all_good way.events;
+            feed_is = way.feed_is;
+            lines = lines_then (way.lines ++ text ∷ []) after.left;
+            lines_are = said_first positions new (way.lines ++ text ∷ []) after.left (first_more positions rest new way.lines text way.are_first is) after.left_is;
+            out = first ++ take h.cut.part.count line;
+            certs = rules.certificate way.answer;
+            runs = gives_part way.events way.answer items (way.lines ++ text ∷ []) after.left [] (first ++ take h.cut.part.count line) (drop h.cut.part.count line)
+                (rules.certificate way.answer) [] exit way.is_opening
+                (along_more (Settles rules way.answer) [] way.lines text way.items items way.steps (h.item, h.comes, refl)) (inl refl)
+                (append_part first line h.cut.part.count ∙ sym (settled_more way.answer way.items h.item) ∙ sym (append-nil (settled_text rules way.answer items)))
+                (append-nil (rules.certificate way.answer)) (inr refl) (ap is_cut h.cut.exit_is);
+            out_sent = sent_more first (take h.cut.part.count line) (before Out) (between Out) (now Out) way.out h.cut.part.sent;
+            certs_sent = sent_still (rules.certificate way.answer) (before Certs) (between Certs) (now Certs) way.certs certs_same;
+          }
+
+      -- ---- behind the last line
+
+      -- memory is wanting for the last lines
+      pub last_wanting : (run : PositionRun S) (now : Slot → Told) (exit : Exit) → IsThroughPositions rules StandsAt feed positions before run now → is_cut exit ≡ true
+          → HasEndedPositions rules feed positions before now exit
+      last_wanting run now exit (rest, way, none) cut = cut_short run now now rest exit way refl refl cut
+
+      -- they are sent
+      pub last_sent : (run : PositionRun S) (between now : Slot → Told) (text : Text) (through : IsThroughPositions rules StandsAt feed positions before run between)
+          → now Certs ≡ between Certs → text ≡ rules.last_lines through.1.answer through.1.items → Sent text (between Out) (now Out)
+          → HasEndedPositions rules feed positions before now Done
+      last_sent run between now text (rest, way, none) certs_same is sent =
+          let first = settled_text rules way.answer way.items in
+          let last = rules.last_lines way.answer way.items in
+          record {
+            over = all_good way.events;
+            feed_is = way.feed_is;
+            lines = lines_then way.lines (ended at_end);
+            lines_are = said_first positions rest way.lines (ended at_end) way.are_first none;
+            out = first ++ last;
+            certs = rules.certificate way.answer;
+            runs = record {
+              answer = way.answer;
+              is_opening = way.is_opening;
+              items = way.items;
+              rest = ended at_end;
+              before = record { lines = way.lines; are_first = refl; steps = way.steps };
+              ends = refl;
+              out_is = refl;
+              certs_are = refl;
+            };
+            out_sent = sent_more first last (before Out) (between Out) (now Out) way.out (subst (λ (t : Text). Sent t (between Out) (now Out)) is sent);
+            certs_sent = sent_still (rules.certificate way.answer) (before Certs) (between Certs) (now Certs) way.certs certs_same;
+          }
+
+      -- or a write of them fails
+      pub last_cut : (run : PositionRun S) (between now : Slot → Told) (text : Text) (exit : Exit) (through : IsThroughPositions rules StandsAt feed positions before run between)
+          → now Certs ≡ between Certs → text ≡ rules.last_lines through.1.answer through.1.items → CutsOff Out text (between Out) (now Out) exit
+          → HasEndedPositions rules feed positions before now exit
+      last_cut run between now text exit (rest, way, none) certs_same is cut =
+          let first = settled_text rules way.answer way.items in
+          let last = rules.last_lines way.answer way.items in
+          record {
+            over = all_good way.events;
+            feed_is = way.feed_is;
+            lines = lines_then way.lines (ended at_end);
+            lines_are = said_first positions rest way.lines (ended at_end) way.are_first none;
+            out = first ++ take cut.part.count last;
+            certs = rules.certificate way.answer;
+            runs = gives_part way.events way.answer way.items way.lines (ended at_end) last (first ++ take cut.part.count last) (drop cut.part.count last)
+                (rules.certificate way.answer) [] exit way.is_opening way.steps (inr (refl, refl)) (append_part first last cut.part.count)
+                (append-nil (rules.certificate way.answer)) (inr refl) (ap is_cut cut.exit_is);
+            out_sent = sent_more first (take cut.part.count last) (before Out) (between Out) (now Out) way.out
+                (subst (λ (t : Text). Sent (take cut.part.count t) (between Out) (now Out)) is cut.part.sent);
+            certs_sent = sent_still (rules.certificate way.answer) (before Certs) (between Certs) (now Certs) way.certs certs_same;
+          }
+
+-- ---- as many lines as there may be
+
+-- the next line, of those that there may be
+pub allowed_step : (count more : ℕ) (text : List ℕ) (old new : ReaderState) (before between now : Slot → Told)
+    → coming old before ≡ option_map (line_then text) (coming new between) → new.slot ≡ Side → now Side ≡ between Side → more ≡ count + 1 → count < POSITION_LINES_MAX
+    → allowed_positions count old before ≡ option_map (line_then text) (allowed_positions more new now)
+allowed_step count more text old new before between now taken is same size few =
+    allowed_line (POSITION_LINES_MAX - count) (POSITION_LINES_MAX - more) text (coming old before) (coming new between) taken (omega (arith, size, few))
+    ∙ ap (λ (c : Option TextLines). option_map (line_then text) (option_map (at_most (POSITION_LINES_MAX - more)) c)) (sym (coming_kept Side new between now is same))
+
+-- the lines that are to come to a new reader are all of them
+pub allowed_all : (count : ℕ) (reader : ReaderState) (told : Slot → Told) → count ≡ 0
+    → reader ≡ record { slot = Side; limit = POSITION_LINE_LEN_MAX; waiting = []; number = 0; is_ended = false; last = None; last_bytes = [] }
+    → allowed_positions count reader told ≡ positions_told told
+allowed_all count reader told zero is =
+    ap (λ (n : ℕ). allowed_positions n reader told) zero
+    ∙ ap (λ (r : ReaderState). allowed_positions 0 r told) is
+    ∙ ap (λ left. option_map (at_most POSITION_LINES_MAX) (option_map (lines_of POSITION_LINE_LEN_MAX) left)) (nothing_waits (told Side).left)
+    ∙ sym (twice (lines_of POSITION_LINE_LEN_MAX) (at_most POSITION_LINES_MAX) (told Side).left)
+
+pub fresh_reader : (reader : ReaderState) → reader ≡ record { slot = Side; limit = POSITION_LINE_LEN_MAX; waiting = []; number = 0; is_ended = false; last = None; last_bytes = [] }
+    → IsReader Side POSITION_LINE_LEN_MAX reader
+fresh_reader reader is = record { slot_is = ap (λ (r : ReaderState). r.slot) is; limit_is = ap (λ (r : ReaderState). r.limit) is; open_yet = ap (λ (r : ReaderState). r.is_ended) is }
+
+-- the exit of a feed that is not read to its end is one of such a run
+pub stop_exit : {B : Type 0} (StandsFor : B → List Event → Type 0) (feed : Option Reading) (reader : FeedReader B) (told : Slot → Told) (why : FeedStop)
+    → ReadsAll StandsFor feed reader told (Err why) → IsPositionExit (exit_of_stop why)
+stop_exit StandsFor feed reader told (stop.BadLine line why) reads = reads.0
+stop_exit StandsFor feed reader told stop.Device reads = tt
+stop_exit StandsFor feed reader told stop.NoMemory reads = tt
+
+-- the positions of a run whose opening was answered are all to come
+pub starts_open : {A I S : Type 0} (rules : PositionRules A I) (StandsAt : S → A → List I → Type 0) (before now : Slot → Told) (run : PositionRun S) (reader : ReaderState)
+    → HasOpened rules StandsAt (feed_told before) before run now → now Side ≡ before Side
+    → reader ≡ record { slot = Side; limit = POSITION_LINE_LEN_MAX; waiting = []; number = 0; is_ended = false; last = None; last_bytes = [] }
+    → IsSettling rules StandsAt (feed_told before) (positions_told before) before run now (allowed_positions run.count reader now)
+starts_open rules StandsAt before now run reader opened same is =
+    starts rules StandsAt (feed_told before) (positions_told before) before run now (allowed_positions run.count reader now) opened
+    (allowed_all run.count reader now opened.count is ∙ ap (λ (t : Told). option_map positions_of t.left) same)

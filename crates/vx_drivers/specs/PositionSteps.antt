@@ -1,0 +1,231 @@
+-- The steps of a run that settles positions.
+use Rattle.std.specs.Prelude.{◌≡◌, ◌⊎◌, ℕ, ◌+◌, ◌-◌, Bool, true, false, List, [], ◌∷◌, ◌++◌, length}
+use Rattle.std.specs.Prelude.{IfOk, IfSome, OnOk, Option, Some, None, Result, Ok, Err}
+use Rattle.std.specs.Option.{option_map}
+use Rattle.vx_lines.specs.TextLines.{TextLines, at_end, at_most, ended, lines_then}
+use Rattle.vx_desk.specs.declared.device.Slot.{Slot}
+use Rattle.vx_desk.specs.declared.device.Slot.TheVariants.{Side, Out, Certs}
+use Rattle.vx_desk.specs.Told.{Told}
+use Rattle.vx_desk.specs.Lines.{ReaderState}
+use Rattle.vx_desk.specs.Coming.{coming}
+use Rattle.vx_num.specs.declared.fault.NoMemory.{NoMemory}
+use Rattle.vx_feed.specs.declared.events.Event.{Event}
+use Rattle.vx_feed.specs.Feed.{Reading}
+use Rattle.vx_feed.specs.Order.{AreLawful}
+use Rattle.vx_settle.specs.declared.fault.PositionFault.{PositionFault}
+use Rattle.vx_reading.specs.FeedReading.{Says, all_good}
+use Rattle.vx_drivers.specs.declared.exit.Exit.{Exit}
+use Rattle.vx_drivers.specs.declared.exit.Exit.TheVariants.{BadPositions}
+use Rattle.vx_drivers.specs.declared.exit.PositionCause.TheVariants.{Fault}
+use Rattle.vx_drivers.specs.declared.limits.TheConstants.{POSITION_LINES_MAX}
+use Rattle.vx_drivers.specs.declared.position_run.PositionRun.{PositionRun}
+use Rattle.vx_drivers.specs.Along.{Along}
+use Rattle.vx_drivers.specs.Exits.{is_cut}
+use Rattle.vx_drivers.specs.PositionExits.{IsLineFault}
+use Rattle.vx_drivers.specs.PositionRun.{PositionRules, RunsPositionsBy, Settles, positions_of, settled_text}
+use Rattle.vx_drivers.specs.Sending.{CutsOff, Sent, Text}
+
+-- what the positions are, where their desk tells them
+abbrev pub positions_told : (Slot → Told) → Option TextLines
+positions_told told = option_map positions_of (told Side).left
+
+-- the lines that are to come, as many as there may be after so many
+abbrev pub allowed_positions : ℕ → ReaderState → (Slot → Told) → Option TextLines
+allowed_positions count reader told = option_map (at_most (POSITION_LINES_MAX - count)) (coming reader told)
+
+-- ---- what answers
+
+-- the opening of some events is answered, with the two texts of the answer and a sheet on which nothing is settled
+pub record OpensSheet {A I S : Type 0} (rules : PositionRules A I) (StandsAt : S → A → List I → Type 0)
+    (events : List Event) (certificate line : Text) (sheet : S) : Type 0 where
+  pub answer : A
+  pub is_opening : rules.IsOpening events answer
+  pub certificate_is : certificate ≡ rules.certificate answer
+  pub line_is : line ≡ rules.line answer
+  pub stands : StandsAt sheet answer []
+
+-- it has taken up events, a lawful list
+abbrev pub HasTakenUpLawful : {B : Type 0} → (B → List Event → Type 0) → B → Type 0
+HasTakenUpLawful StandsFor book = (events : List Event) × StandsFor book events × AreLawful events
+
+-- and answers their opening so
+abbrev pub AnswersOpeningOf : {A I S B : Type 0} → PositionRules A I → (S → A → List I → Type 0)
+    → (B → List Event → Type 0) → B → Text → Text → Result S NoMemory → Type 0
+AnswersOpeningOf rules StandsAt StandsFor book certificate line result =
+    (events : List Event) → StandsFor book events → AreLawful events
+    → IfOk result (OpensSheet rules StandsAt events certificate line)
+
+-- what a line of positions comes to is on the sheet, and this is what the output says of it
+pub record AddsItem {A I S : Type 0} (rules : PositionRules A I) (StandsAt : S → A → List I → Type 0) (answer : A)
+    (items : List I) (text : List ℕ) (line : Text) (sheet : S) : Type 0 where
+  pub item : I
+  pub comes : rules.ComesTo answer text (Ok item)
+  pub line_is : line ≡ rules.item_line (length items + 1) item
+  pub stands : StandsAt sheet answer (items ++ item ∷ [])
+
+-- the same, or the line is no position for this fault
+abbrev pub AddsUnless : {A I S : Type 0} → PositionRules A I → (S → A → List I → Type 0) → A → List I → List ℕ → Text
+    → S → Option PositionFault → Type 0
+AddsUnless rules StandsAt answer items text line sheet None = AddsItem rules StandsAt answer items text line sheet
+AddsUnless rules StandsAt answer items text line sheet (Some fault) =
+    rules.ComesTo answer text (Err fault) × IsLineFault fault
+
+-- a sheet on which so many items stand
+abbrev pub HasItems : {A I S : Type 0} → (S → A → List I → Type 0) → S → ℕ → Type 0
+HasItems {A} {I} StandsAt sheet count =
+    (answer : A) × (items : List I) × StandsAt sheet answer items × (count ≡ length items)
+
+-- and the next line is settled on it
+abbrev pub SettlesNext : {A I S : Type 0} → PositionRules A I → (S → A → List I → Type 0) → S → ℕ → List ℕ → Text → S
+    → Result (Option PositionFault) NoMemory → Type 0
+SettlesNext {A} {I} rules StandsAt old count text line new result =
+    (answer : A) (items : List I) → StandsAt old answer items → count ≡ length items
+    → IfOk result (AddsUnless rules StandsAt answer items text line new)
+
+-- and its last lines are these
+abbrev pub WritesLast : {A I S : Type 0} → PositionRules A I → (S → A → List I → Type 0) → S → ℕ → Text
+    → Result Unit NoMemory → Type 0
+WritesLast {A} {I} rules StandsAt sheet count line result =
+    (answer : A) (items : List I) → StandsAt sheet answer items → count ≡ length items
+    → OnOk result (line ≡ rules.last_lines answer items)
+
+-- ---- how a run ends
+
+-- the run ended with this exit, and sent what it gives over the feed and the positions: those that are told, or some
+-- where none are
+pub record HasEndedPositions {A I : Type 0} (rules : PositionRules A I) (feed : Option Reading)
+    (positions : Option TextLines) (before after : Slot → Told) (exit : Exit) : Type 0 where
+  pub over : Reading
+  pub feed_is : Says feed over
+  pub lines : TextLines
+  pub lines_are : IfSome positions (λ told. told ≡ lines)
+  pub out : Text
+  pub certs : Text
+  pub runs : RunsPositionsBy rules over lines exit out certs
+  pub out_sent : Sent out (before Out) (after Out)
+  pub certs_sent : Sent certs (before Certs) (after Certs)
+
+module _ {A I S : Type 0} (rules : PositionRules A I) (StandsAt : S → A → List I → Type 0) where
+  -- ---- one line
+
+  -- a line is settled, and the output was sent what there is to say of it
+  pub record SendsItem (answer : A) (items : List I) (text : List ℕ) (run : PositionRun S)
+      (before after : Told) : Type 0 where
+    pub item : I
+    pub comes : rules.ComesTo answer text (Ok item)
+    pub stands : StandsAt run.sheet answer (items ++ item ∷ [])
+    pub sent : Sent (rules.item_line (length items + 1) item) before after
+
+  -- a write of it failed
+  pub record CutsItem (answer : A) (items : List I) (text : List ℕ) (before after : Told) (exit : Exit) : Type 0 where
+    pub item : I
+    pub comes : rules.ComesTo answer text (Ok item)
+    pub cut : CutsOff Out (rules.item_line (length items + 1) item) before after exit
+
+  -- the line is no position
+  pub record EndsAtFault (answer : A) (items : List I) (text : List ℕ) (exit : Exit) : Type 0 where
+    pub fault : PositionFault
+    pub exit_is : exit ≡ BadPositions (length items + 1) (Fault fault)
+    pub comes : rules.ComesTo answer text (Err fault)
+
+  -- a line is settled, or the run ends at it
+  abbrev pub SettlesLine : A → List I → List ℕ → PositionRun S → Told → Told → Result Unit Exit → Type 0
+  SettlesLine answer items text run before after (Ok _) = SendsItem answer items text run before after
+  SettlesLine answer items text run before after (Err exit) =
+      (((is_cut exit ≡ true) ⊎ EndsAtFault answer items text exit) × (after ≡ before))
+      ⊎ CutsItem answer items text before after exit
+
+  -- the line after so many is settled
+  abbrev pub SettlesOne : PositionRun S → List ℕ → PositionRun S → Told → Told → Result Unit Exit → Type 0
+  SettlesOne old text new before after result =
+      (answer : A) (items : List I) → StandsAt old.sheet answer items → old.count ≡ length items
+      → SettlesLine answer items text new before after result
+
+  -- ---- the opening
+
+  -- the opening of a feed that is read to its end was answered, and its two texts were sent
+  pub record HasOpened (feed : Option Reading) (before : Slot → Told) (run : PositionRun S)
+      (now : Slot → Told) : Type 0 where
+    pub events : List Event
+    pub feed_is : Says feed (all_good events)
+    pub answer : A
+    pub is_opening : rules.IsOpening events answer
+    pub sheet : StandsAt run.sheet answer []
+    pub count : run.count ≡ 0
+    pub certs : Sent (rules.certificate answer) (before Certs) (now Certs)
+    pub out : Sent (rules.line answer) (before Out) (now Out)
+
+  -- the same, or the run ended
+  abbrev pub OpensRun : Option Reading → (Slot → Told) → (Slot → Told) → Result (PositionRun S) Exit → Type 0
+  OpensRun feed before now (Ok run) = HasOpened feed before run now
+  OpensRun feed before now (Err exit) =
+      (positions : Option TextLines) → HasEndedPositions rules feed positions before now exit
+
+  -- ---- from the start of the run
+
+  module _ (feed : Option Reading) (positions : Option TextLines) (before : Slot → Told) where
+    -- the opening and the first lines are answered and sent, and these lines are to come
+    pub record IsSettling (run : PositionRun S) (now : Slot → Told) (rest : Option TextLines) : Type 0 where
+      pub events : List Event
+      pub feed_is : Says feed (all_good events)
+      pub answer : A
+      pub is_opening : rules.IsOpening events answer
+      pub items : List I
+      pub lines : List (List ℕ)
+      pub are_first : positions ≡ option_map (lines_then lines) rest
+      pub steps : Along (Settles rules answer) [] lines items
+      pub sheet : StandsAt run.sheet answer items
+      pub count : run.count ≡ length items
+      pub certs : Sent (rules.certificate answer) (before Certs) (now Certs)
+      pub out : Sent (settled_text rules answer items) (before Out) (now Out)
+
+    -- and no line is left
+    abbrev pub IsThroughPositions : PositionRun S → (Slot → Told) → Type 0
+    IsThroughPositions run now =
+        (rest : Option TextLines) × IsSettling run now rest × IfSome rest (λ lines. lines ≡ ended at_end)
+
+    -- one line more is settled, or none is left, or the run ended
+    abbrev pub GoesOnPositions : PositionRun S → (Slot → Told) → Option TextLines → Result Bool Exit → Type 0
+    GoesOnPositions run now rest (Ok true) = IsSettling run now rest
+    GoesOnPositions run now rest (Ok false) = IsThroughPositions run now
+    GoesOnPositions run now rest (Err exit) = HasEndedPositions rules feed positions before now exit
+
+    -- all lines are settled, or the run ended
+    abbrev pub SettlesEach : PositionRun S → (Slot → Told) → Result Unit Exit → Type 0
+    SettlesEach run now (Ok _) = IsThroughPositions run now
+    SettlesEach run now (Err exit) = HasEndedPositions rules feed positions before now exit
+
+  -- ---- the clauses of a run
+
+  -- a run that may go on
+  abbrev pub MaySettle : PositionRun S → (Slot → Told) → Option TextLines → Type 0
+  MaySettle run told rest =
+      (feed : Option Reading) × (positions : Option TextLines) × (before : Slot → Told)
+      × IsSettling feed positions before run told rest
+
+  -- the next line is settled
+  abbrev pub GoesOnePosition : PositionRun S → (Slot → Told) → Option TextLines → PositionRun S → (Slot → Told)
+      → Option TextLines → Result Bool Exit → Type 0
+  GoesOnePosition old told rest new now more result =
+      (feed : Option Reading) (positions : Option TextLines) (before : Slot → Told)
+      → IsSettling feed positions before old told rest → GoesOnPositions feed positions before new now more result
+
+  -- all lines are settled
+  abbrev pub GoesToLastPosition : PositionRun S → (Slot → Told) → Option TextLines → PositionRun S → (Slot → Told)
+      → Result Unit Exit → Type 0
+  GoesToLastPosition old told rest new now result =
+      (feed : Option Reading) (positions : Option TextLines) (before : Slot → Told)
+      → IsSettling feed positions before old told rest → SettlesEach feed positions before new now result
+
+  -- a run whose lines are all settled
+  abbrev pub MayEndPositions : PositionRun S → (Slot → Told) → Type 0
+  MayEndPositions run told =
+      (feed : Option Reading) × (positions : Option TextLines) × (before : Slot → Told)
+      × IsThroughPositions feed positions before run told
+
+  -- the run ends behind the last line
+  abbrev pub EndsPositionRun : PositionRun S → (Slot → Told) → (Slot → Told) → Exit → Type 0
+  EndsPositionRun run told now exit =
+      (feed : Option Reading) (positions : Option TextLines) (before : Slot → Told)
+      → IsThroughPositions feed positions before run told
+      → HasEndedPositions rules feed positions before now exit
