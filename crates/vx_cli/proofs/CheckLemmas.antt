@@ -15,14 +15,16 @@ use Rattle.vx_drivers.specs.CertificateExits.{IsCertificateExit}
 use Rattle.vx_drivers.specs.CertificateRun.{certificates_of}
 use Rattle.vx_drivers.specs.CertificateSteps.{HasEnded, certs_told}
 use Rattle.vx_drivers.specs.Exits.{IsWithoutNoMemory, is_cut}
+use Rattle.vx_drivers.specs.PositionRun.{positions_of}
 use Rattle.vx_drivers.specs.Sending.{Text}
 use Rattle.vx_drivers.proofs.ExitLemmas.{certs_not_feed, feed_not_side, out_not_feed, out_not_side, side_not_feed}
 use Rattle.vx_drivers.proofs.RunLemmas.{never_started}
 use Rattle.vx_drivers.proofs.SendingLemmas.{sent_none}
 use Rattle.vx_cli.specs.CheckRuns.{check_rules}
 use Rattle.vx_cli.proofs.ReplayLemmas.{nothing_sent}
-use Rattle.vx_cli.specs.Runs.{ChecksFiles, ChecksOpen, IsCheckExit, IsExitOf, IsMakeExit, IsReplayExit, IsOpenAs, IsShut, OpensBoth, OpensNothing, OpensToCheck, SendsFor}
-use Rattle.vx_cli.specs.Words.{Command, check, drill, make, replay}
+use Rattle.vx_cli.proofs.SettleLemmas.{nothing_settled, settle_without}
+use Rattle.vx_cli.specs.Runs.{ChecksFiles, ChecksOpen, IsCheckExit, IsExitOf, IsMakeExit, IsReplayExit, IsSettleExit, IsOpenAs, IsShut, OpensBoth, OpensNothing, OpensToCheck, SendsFor}
+use Rattle.vx_cli.specs.Words.{Command, check, make, replay, settle}
 
 -- ---- exits
 
@@ -84,12 +86,14 @@ make_without (BadCerts line cause) h = tt
 pub exit_without : (exit : Exit) (command : Command) → IsExitOf exit command → IsWithoutNoMemory exit
 exit_without exit (replay feed certs) h = replay_without exit h
 exit_without exit (check feed certs) h = check_without exit h
+exit_without exit (settle feed positions certs) h = settle_without exit h
 exit_without exit (make number ticks) h = make_without exit h
 exit_without exit (drill number ticks) h = make_without exit h
 
 pub exit_not_usage : (exit : Exit) (command : Command) → IsExitOf exit command → exit ≢ Usage
 exit_not_usage exit (replay feed certs) h = λ is. subst IsReplayExit is h
 exit_not_usage exit (check feed certs) h = λ is. subst IsCheckExit is h
+exit_not_usage exit (settle feed positions certs) h = λ is. subst IsSettleExit is h
 exit_not_usage exit (make number ticks) h = λ is. subst IsMakeExit is h
 exit_not_usage exit (drill number ticks) h = λ is. subst IsMakeExit is h
 
@@ -191,5 +195,7 @@ nothing_done None holds told only = refl
 nothing_done (Some (replay feed certs)) holds told only =
     nothing_sent (option_map reading_of (holds feed)) told told NoMemory refl refl (only Certs (λ e. cc)) refl
 nothing_done (Some (check feed certs)) holds told only = sends_nothing feed certs holds told only told NoMemory refl refl
+nothing_done (Some (settle feed positions certs)) holds told only =
+    nothing_settled (option_map reading_of (holds feed)) (option_map positions_of (holds positions)) told told NoMemory refl refl (only Certs (λ e. cc)) refl
 nothing_done (Some (make number ticks)) holds told only = refl
 nothing_done (Some (drill number ticks)) holds told only = refl

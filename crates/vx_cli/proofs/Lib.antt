@@ -15,5 +15,7 @@ mod DrillLemmas
 mod CountLemmas
 mod RangeLemmas
 mod ReplayLemmas
-mod SampleLemmas
-mod TextDeskLemmas
+-- the answers of `settle`
+mod SettleLemmas
+mod LineLemmas
+mod SheetLemmas

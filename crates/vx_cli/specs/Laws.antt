@@ -4,7 +4,7 @@ use Rattle.vx_drivers.specs.declared.exit.Exit.{Exit}
 use Rattle.vx_cli.specs.ExitText.{Text}
 use Rattle.vx_cli.specs.CheckRuns.{Checks}
 use Rattle.vx_cli.specs.ReplayRuns.{Replays}
-use Rattle.vx_cli.specs.SettleText.{Settles}
+use Rattle.vx_cli.specs.SettleRuns.{Settles}
 use Rattle.vx_cli.specs.DrillText.{Drills}
 
 -- over a feed and a file of certificates `check` has at most one exit and one text
@@ -17,10 +17,11 @@ abbrev pub ReplayIsOne : Type 0
 ReplayIsOne = (feed : List ℕ) (exit other : Exit) (out certs other_out other_certs : Text) →
     Replays feed exit out certs → Replays feed other other_out other_certs → (exit ≡ other) × (out ≡ other_out) × (certs ≡ other_certs)
 
--- and a feed and a file of positions have at most one of `settle`
+-- over a feed and a file of positions `settle` has at most one exit, one output and one file of certificates
 abbrev pub SettleIsOne : Type 0
-SettleIsOne = (feed positions : List ℕ) (out certs other_out other_certs : Text) →
-    Settles feed positions out certs → Settles feed positions other_out other_certs → (out ≡ other_out) × (certs ≡ other_certs)
+SettleIsOne = (feed positions : List ℕ) (exit other : Exit) (out certs other_out other_certs : Text) →
+    Settles feed positions exit out certs → Settles feed positions other other_out other_certs →
+    (exit ≡ other) × (out ≡ other_out) × (certs ≡ other_certs)
 
 -- a number and a count of ticks have at most one output of `drill`
 abbrev pub DrillIsOne : Type 0

@@ -13,6 +13,9 @@ pub mod ReplayRuns
 pub mod ReplayText
 pub mod Requests
 pub mod Runs
+pub mod SettleLaws
+pub mod SettleRuns
+pub mod SettleSheet
 pub mod SettleText
 pub mod TextDesk
 pub mod Words

@@ -1,5 +1,5 @@
--- The command line of two words that `clap` is told to read.
-use Rattle.std.specs.Prelude.{true, codes}
+-- The command lines of two and of three words that `clap` is told to read.
+use Rattle.std.specs.Prelude.{true, codes, Option, Some, None}
 use Rattle.clap.specs.Words.{App, Rule, new_app, new_rule, with_rule}
 
 abbrev pub required_word : Rule → Rule
@@ -13,3 +13,13 @@ line_start = let app = new_app (codes "operands") in record app {
 abbrev pub two_operand_app : App
 two_operand_app = with_rule (with_rule line_start (required_word (new_rule (codes "first"))))
     (required_word (new_rule (codes "second")))
+
+abbrev pub three_operand_app : App
+three_operand_app = with_rule two_operand_app (required_word (new_rule (codes "third")))
+
+-- three values, where there are all of them
+abbrev pub all_three : {A : Type 0} → Option A → Option A → Option A → Option (A × A × A)
+all_three (Some x) (Some y) (Some z) = Some (x, y, z)
+all_three (Some x) (Some y) None = None
+all_three (Some x) None third = None
+all_three None second third = None

@@ -2,12 +2,13 @@
 use Rattle.std.specs.Prelude.{ℕ, ◌<◌, ◌≤◌}
 use Rattle.vx_make.specs.declared.limits.TheConstants.{STATES, TICKS_MAX}
 use Rattle.vx_cli.specs.declared.request.Request.{Request}
-use Rattle.vx_cli.specs.declared.request.Request.TheVariants.{Check, Drill, Make, Replay}
-use Rattle.vx_cli.specs.Words.{Command, check, drill, make, replay}
+use Rattle.vx_cli.specs.declared.request.Request.TheVariants.{Check, Make, Replay, Settle}
+use Rattle.vx_cli.specs.Words.{Command, check, make, replay, settle}
 
 abbrev pub asked : Request → Command
 asked (Replay feed certs) = replay feed.now certs.now
 asked (Check feed certs) = check feed.now certs.now
+asked (Settle feed positions certs) = settle feed.now positions.now certs.now
 asked (Make number ticks) = make number ticks
 asked (Drill number ticks) = drill number ticks
 
@@ -19,5 +20,5 @@ IsSample number ticks = (number < STATES) × (1 ≤ ticks) × (ticks ≤ TICKS_M
 abbrev pub IsInRange : Request → Type 0
 IsInRange (Replay feed certs) = Unit {0}
 IsInRange (Check feed certs) = Unit {0}
-IsInRange (Make number ticks) = IsSample number ticks
-IsInRange (Drill number ticks) = IsSample number ticks
+IsInRange (Settle feed positions certs) = Unit {0}
+IsInRange (Make number ticks) = (number < STATES) × (1 ≤ ticks) × (ticks ≤ TICKS_MAX)

@@ -4,6 +4,7 @@ use Rattle.std.specs.Option.{option_map}
 use Rattle.vx_desk.specs.Told.{Told}
 use Rattle.vx_desk.specs.declared.device.Slot.{Slot}
 use Rattle.vx_desk.specs.declared.device.Slot.TheVariants.{Feed, Side, Out, Certs}
+use Rattle.vx_lines.specs.TextLines.{TextLines}
 use Rattle.vx_feed.specs.Feed.{Reading, reading_of}
 use Rattle.vx_make.specs.Feed.{make_text}
 use Rattle.vx_reading.specs.FeedReading.{Says, feed_told}
@@ -12,6 +13,9 @@ use Rattle.vx_drivers.specs.declared.exit.Exit.TheVariants.{Done, OpenFault, Wri
 use Rattle.vx_drivers.specs.CertificateExits.{IsCertificateExit}
 use Rattle.vx_drivers.specs.CertificateRun.{certificates_of}
 use Rattle.vx_drivers.specs.CertificateSteps.{HasEnded, certs_told}
+use Rattle.vx_drivers.specs.PositionExits.{IsPositionExit}
+use Rattle.vx_drivers.specs.PositionRun.{RunsPositionsBy, positions_of}
+use Rattle.vx_drivers.specs.PositionSteps.{HasEndedPositions, positions_told}
 use Rattle.vx_drivers.specs.Sending.{Sent, SentPart, Text}
 use Rattle.vx_drivers.specs.TickExits.{IsTickExit}
 use Rattle.vx_drivers.specs.TickRun.{RunsTicksBy}
@@ -19,7 +23,8 @@ use Rattle.vx_drivers.specs.TickSteps.{HasEndedTicks}
 use Rattle.vx_cli.specs.CheckRuns.{check_rules}
 use Rattle.vx_cli.specs.DrillText.{Drills}
 use Rattle.vx_cli.specs.ReplayRuns.{replay_rules}
-use Rattle.vx_cli.specs.Words.{Command, check, drill, make, replay}
+use Rattle.vx_cli.specs.SettleRuns.{settle_rules}
+use Rattle.vx_cli.specs.Words.{Command, check, make, replay, settle}
 
 -- ---- how a command ends
 
@@ -35,7 +40,13 @@ IsCheckExit (OpenFault Feed) = Unit {0}
 IsCheckExit (OpenFault Side) = Unit {0}
 IsCheckExit exit = IsCertificateExit exit
 
--- how `make` and `drill` end: all is sent, memory is wanting, or a write of the output fails
+-- an open of one of its three slots fails, or it ends as a run that settles positions does
+abbrev pub IsSettleExit : Exit → Type 0
+IsSettleExit (OpenFault Feed) = Unit {0}
+IsSettleExit (OpenFault Side) = Unit {0}
+IsSettleExit (OpenFault Certs) = Unit {0}
+IsSettleExit exit = IsPositionExit exit
+
 abbrev pub IsMakeExit : Exit → Type 0
 IsMakeExit Done = Unit {0}
 IsMakeExit NoMemory = Unit {0}
@@ -46,6 +57,7 @@ IsMakeExit _ = ⊥
 abbrev pub IsExitOf : Exit → Command → Type 0
 IsExitOf exit (replay feed certs) = IsReplayExit exit
 IsExitOf exit (check feed certs) = IsCheckExit exit
+IsExitOf exit (settle feed positions certs) = IsSettleExit exit
 IsExitOf exit (make number ticks) = IsMakeExit exit
 IsExitOf exit (drill number ticks) = IsMakeExit exit
 
@@ -87,11 +99,28 @@ OpensToCheck feed certs told (OpenFault Side) = IsOpenAs feed (told Feed) × IsS
 OpensToCheck feed certs told NoMemory = OpensNothing told ⊎ OpensBoth feed certs told
 OpensToCheck feed certs told _ = OpensBoth feed certs told
 
+-- all three files of `settle` are open
+abbrev pub OpensAllThree : Text → Text → Text → (Slot → Told) → Type 0
+OpensAllThree feed positions certs told =
+    IsOpenAs feed (told Feed) × IsOpenAs positions (told Side) × IsOpenAs certs (told Certs)
+
+-- what `settle` leaves open, by its exit: it opens the feed, then the positions and then the file of certificates,
+-- unless memory is wanting before it opens any
+abbrev pub OpensToSettle : Text → Text → Text → (Slot → Told) → Exit → Type 0
+OpensToSettle feed positions certs told (OpenFault Feed) = OpensNothing told
+OpensToSettle feed positions certs told (OpenFault Side) =
+    IsOpenAs feed (told Feed) × IsShut (told Side) × IsShut (told Certs)
+OpensToSettle feed positions certs told (OpenFault Certs) =
+    IsOpenAs feed (told Feed) × IsOpenAs positions (told Side) × IsShut (told Certs)
+OpensToSettle feed positions certs told NoMemory = OpensNothing told ⊎ OpensAllThree feed positions certs told
+OpensToSettle feed positions certs told _ = OpensAllThree feed positions certs told
+
 -- each slot that a command opens is opened with the word that names it, and no other slot is opened
 abbrev pub OpensFor : Option Command → (Slot → Told) → Exit → Type 0
 OpensFor None told exit = OpensNothing told
 OpensFor (Some (replay feed certs)) told exit = OpensToReplay feed certs told exit
 OpensFor (Some (check feed certs)) told exit = OpensToCheck feed certs told exit
+OpensFor (Some (settle feed positions certs)) told exit = OpensToSettle feed positions certs told exit
 OpensFor (Some (make number ticks)) told exit = OpensNothing told
 OpensFor (Some (drill number ticks)) told exit = OpensNothing told
 
@@ -150,10 +179,37 @@ ReplaysOpen before after exit = HasEndedTicks replay_rules (feed_told before) be
 abbrev pub ReplaysFile : Text → (List ℕ → Option (List ℕ)) → (Slot → Told) → (Slot → Told) → Exit → Type 0
 ReplaysFile feed holds before after exit = HasReplayed (option_map reading_of (holds feed)) before after exit
 
--- what a command sends, by the exit of its run: `check`, `make` and `drill` to the output alone
+-- what a run of `settle` sends over a feed and lines of positions, those that are told, or some where none are: to the
+-- output and to the file of certificates the two texts of a run that ends so, or first parts of them where a call fails
+-- or memory is wanting, the certificate whole where anything of the output was sent
+pub record HasSettled (feed : Option Reading) (positions : Option TextLines) (before after : Slot → Told)
+    (exit : Exit) : Type 0 where
+  pub over : Reading
+  pub feed_is : Says feed over
+  pub lines : TextLines
+  pub lines_are : IfSome positions (λ told. told ≡ lines)
+  pub out : Text
+  pub certs : Text
+  pub runs : RunsPositionsBy settle_rules over lines exit out certs
+  pub out_sent : Sent out (before Out) (after Out)
+  pub certs_sent : SentIfOpen (after Certs).is_open certs (before Certs) (after Certs)
+
+-- the same of files that are open
+abbrev pub SettlesOpen : (Slot → Told) → (Slot → Told) → Exit → Type 0
+SettlesOpen before after exit =
+    HasEndedPositions settle_rules (feed_told before) (positions_told before) before after exit
+
+-- the same over the bytes that the names of the feed and of the positions hold
+abbrev pub SettlesFiles : Text → Text → (List ℕ → Option (List ℕ)) → (Slot → Told) → (Slot → Told) → Exit → Type 0
+SettlesFiles feed positions holds before after exit =
+    HasSettled (option_map reading_of (holds feed)) (option_map positions_of (holds positions)) before after exit
+
+-- what a command sends, by the exit of its run: `check` and `make` to the output alone
 abbrev pub SendsFor : Option Command → (List ℕ → Option (List ℕ)) → (Slot → Told) → (Slot → Told) → Exit → Type 0
 SendsFor None holds before after exit = (after Out).sent ≡ (before Out).sent
 SendsFor (Some (replay feed certs)) holds before after exit = ReplaysFile feed holds before after exit
 SendsFor (Some (check feed certs)) holds before after exit = ChecksFiles feed certs holds before after exit
+SendsFor (Some (settle feed positions certs)) holds before after exit =
+    SettlesFiles feed positions holds before after exit
 SendsFor (Some (make number ticks)) holds before after exit = Makes number ticks (before Out) (after Out) exit
 SendsFor (Some (drill number ticks)) holds before after exit = DrillsTo number ticks (before Out) (after Out) exit

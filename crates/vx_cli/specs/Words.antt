@@ -21,11 +21,17 @@ abbrev pub two_of : List Text → Option (Text × Text)
 two_of (first ∷ second ∷ []) = Some (first, second)
 two_of _ = None
 
--- what a command line asks for: `replay` and `check` with the names of their files, `make` and `drill` with the
--- number and the ticks of a sample feed
+-- the three words, where there are just three
+abbrev pub three_of : List Text → Option (Text × Text × Text)
+three_of (first ∷ second ∷ third ∷ []) = Some (first, second, third)
+three_of _ = None
+
+-- what a command line asks for: `replay`, `check` and `settle` with the names of their files, `make` with the number
+-- and the ticks of a sample feed
 pub data Command : Type 0 where
   replay : Text → Text → Command
   check : Text → Text → Command
+  settle : Text → Text → Text → Command
   make : ℕ → ℕ → Command
   drill : ℕ → ℕ → Command
 
@@ -40,6 +46,18 @@ replay_form operands = option_map (λ files. replay files.0 files.1) (option_and
 -- `check FEED CERTS`
 abbrev pub check_form : List Text → Option Command
 check_form operands = option_map (λ files. check files.0 files.1) (option_and_then two_files (two_of operands))
+
+abbrev pub three_files : Text × Text × Text → Option (Text × Text × Text)
+three_files files =
+    if bytes_eq files.0 files.1 then None
+    else if bytes_eq files.0 files.2 then None
+    else if bytes_eq files.1 files.2 then None
+    else Some files
+
+-- `settle FEED POSITIONS CERTS`
+abbrev pub settle_form : List Text → Option Command
+settle_form operands =
+    option_map (λ files. settle files.0 files.1 files.2) (option_and_then three_files (three_of operands))
 
 -- the number of a sample feed: a state of the generator, in digits
 abbrev pub number_of : Text → Option ℕ
@@ -65,6 +83,7 @@ abbrev pub named_form : Text → List Text → Option Command
 named_form name operands =
     if bytes_eq name (codes "replay") then replay_form operands
     else if bytes_eq name (codes "check") then check_form operands
+    else if bytes_eq name (codes "settle") then settle_form operands
     else if bytes_eq name (codes "make") then make_form operands
     else if bytes_eq name (codes "drill") then drill_form operands
     else None

@@ -12,7 +12,7 @@ pub fn replay_is_one()
     ensures { ReplayIsOne }
 {}
 
-/// What `settle` writes is a function of the feed and the positions.
+/// What `settle` writes, and where its run ends, is a function of the feed and the positions.
 pub fn settle_is_one()
     ensures { SettleIsOne }
 {}

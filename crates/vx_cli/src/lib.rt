@@ -10,7 +10,8 @@ mod operands;
 mod program;
 mod replay;
 mod request;
-mod text_desk;
+mod settle;
+mod settle_lines;
 mod tick_lines;
 mod words;
 

@@ -12,6 +12,7 @@ use crate::drill::drill_sample;
 use crate::make::send_sample;
 use crate::replay::replay_files;
 use crate::request::{Request, read_request};
+use crate::settle::settle_files;
 use std::alloc::Global;
 use vx_desk::Desk;
 use vx_drivers::Exit;
@@ -19,8 +20,8 @@ use vx_num::NoMemory;
 
 /// Runs the command that the words ask for, those after the program's name.
 ///
-/// Today it runs `replay FEED CERTS`, `check FEED CERTS`, `make NUMBER TICKS` and `drill NUMBER TICKS`; the words
-/// of every other command are answered with `Usage`.
+/// Today it runs `replay FEED CERTS`, `check FEED CERTS`, `settle FEED POSITIONS CERTS` and
+/// `make NUMBER TICKS`; the words of every other command are answered with `Usage`.
 pub fn run<D: Desk>(alloc: Global, words: &[String], desk: &mut D) -> Exit
     requires closed { OnlyOutIsOpen (D.told desk.old) }
     // Usage comes exactly by the words, save that want of memory may come in its place.
@@ -33,7 +34,7 @@ pub fn run<D: Desk>(alloc: Global, words: &[String], desk: &mut D) -> Exit
     // A device fault is answered just where the desk counted a failure of that slot and kind.
     ensures failures { Failures (exit_calls result) (D.told desk.old) (D.told desk.new) }
     ensures opens { OpensFor (command_of (map string_bytes words.now)) (D.told desk.new) result }
-    // What each command sends, and that `replay` and `check` end so, is exact; words that are no command form
+    // What each command sends, and that `replay`, `check` and `settle` end so, is exact; words that are no command form
     // send nothing.
     ensures sends { SendsFor (command_of (map string_bytes words.now))
         (D.holds desk.old) (D.told desk.old) (D.told desk.new) result }
@@ -41,6 +42,15 @@ pub fn run<D: Desk>(alloc: Global, words: &[String], desk: &mut D) -> Exit
     match read_request(alloc, words) {
         Ok(Some(Request::Replay { feed, certs })) => replay_files(alloc, desk, feed, certs),
         Ok(Some(Request::Check { feed, certs })) => check_files(alloc, desk, feed, certs),
+        Ok(
+            Some(
+                Request::Settle {
+                    feed,
+                    positions,
+                    certs,
+                },
+            ),
+        ) => settle_files(alloc, desk, feed, positions, certs),
         Ok(Some(Request::Make { number, ticks })) => send_sample(alloc, desk, number, ticks),
         Ok(Some(Request::Drill { number, ticks })) => drill_sample(alloc, desk, number, ticks),
         Ok(None) => Exit::Usage,

@@ -2,11 +2,11 @@
 
 ghost use Rattle.std.specs.Prelude.{◌≡◌, ◌<◌, ◌≤◌, true, IfOk, IfSome, map, option_and_then, option_map, string_bytes};
 ghost use Rattle.std.specs.List.{list_all};
-ghost use Rattle.vx_cli.specs.Requests.{IsInRange, IsSample, asked};
-ghost use Rattle.vx_cli.specs.Words.{check_form, command_of, drill_form, is_plain_word, make_form, named_form};
-ghost use Rattle.vx_cli.specs.Words.{number_of, replay_form, sample_of, ticks_of, two_files, two_of};
+ghost use Rattle.vx_cli.specs.Requests.{IsInRange, asked};
+ghost use Rattle.vx_cli.specs.Words.{check_form, command_of, is_plain_word, make_form, named_form, number_of, replay_form, settle_form};
+ghost use Rattle.vx_cli.specs.Words.{three_files, three_of, ticks_of, two_files, two_of};
 
-use crate::operands::two_operands;
+use crate::operands::{three_operands, two_operands};
 use std::alloc::Global;
 use vx_make::limits::{STATES, TICKS_MAX};
 use vx_num::{NoMemory, read_decimal};
@@ -15,13 +15,26 @@ use vx_num::{NoMemory, read_decimal};
 #[derive(Clone, Copy)]
 pub(crate) enum Request<'a> {
     /// Answer each tick of a feed, with the certificates of its figures.
-    Replay { feed: &'a str, certs: &'a str },
+    Replay {
+        feed: &'a str,
+        certs: &'a str,
+    },
     /// Answer each certificate line over a feed.
-    Check { feed: &'a str, certs: &'a str },
+    Check {
+        feed: &'a str,
+        certs: &'a str,
+    },
+    /// Settle each position on the opening figure of a feed, with the figure's certificate.
+    Settle {
+        feed: &'a str,
+        positions: &'a str,
+        certs: &'a str,
+    },
     /// Send the sample feed of a number below 2^31, with so many ticks, 1 to 390.
-    Make { number: u32, ticks: u32 },
-    /// Count the answers to the ticks of such a feed.
-    Drill { number: u32, ticks: u32 },
+    Make {
+        number: u32,
+        ticks: u32,
+    },
 }
 
 /// Whether a word is not empty and does not begin with `-`.
@@ -81,6 +94,40 @@ fn read_check<'a>(alloc: Global, operands: &'a [String]) -> Result<Option<Reques
         return Ok(None);
     };
     Ok(Some(Request::Check { feed, certs }))
+}
+
+/// Reads the names of three files, no two of them the same.
+fn read_three_files<'a>(
+    alloc: Global,
+    operands: &'a [String],
+) -> Result<Option<(&'a str, &'a str, &'a str)>, NoMemory>
+    requires { list_all is_plain_word (map string_bytes operands.now) ≡ true }
+    ensures { IfOk result (λ r. option_map (λ p. (p.0.now, p.1.now, p.2.now)) r
+        ≡ option_and_then three_files (three_of (map string_bytes operands.now))) }
+{
+    let Some((first, second, third)) = three_operands(alloc, operands)? else {
+        return Ok(None);
+    };
+    if first == second || first == third || second == third {
+        return Ok(None);
+    }
+    Ok(Some((first, second, third)))
+}
+
+/// Reads the operands of `settle`.
+fn read_settle<'a>(alloc: Global, operands: &'a [String]) -> Result<Option<Request<'a>>, NoMemory>
+    requires { list_all is_plain_word (map string_bytes operands.now) ≡ true }
+    ensures asked { IfOk result (λ r. option_map asked r ≡ settle_form (map string_bytes operands.now)) }
+    ensures in_range { IfOk result (λ r. IfSome r IsInRange) }
+{
+    let Some((feed, positions, certs)) = read_three_files(alloc, operands)? else {
+        return Ok(None);
+    };
+    Ok(Some(Request::Settle {
+        feed,
+        positions,
+        certs,
+    }))
 }
 
 /// Reads the number of a sample feed.
@@ -160,6 +207,8 @@ fn read_operands<'a>(
         read_replay(alloc, operands)
     } else if name == "check" {
         read_check(alloc, operands)
+    } else if name == "settle" {
+        read_settle(alloc, operands)
     } else if name == "make" {
         read_make(alloc, operands)
     } else if name == "drill" {

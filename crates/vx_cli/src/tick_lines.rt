@@ -105,7 +105,12 @@ fn push_start(
 }
 
 /// Appends the two ends of an index and the end of the line.
-fn push_index_ends(alloc: Global, line: &mut Vec<u8>, lo: i64, hi: i64) -> Result<(), NoMemory>
+pub(crate) fn push_index_ends(
+    alloc: Global,
+    line: &mut Vec<u8>,
+    lo: i64,
+    hi: i64,
+) -> Result<(), NoMemory>
     ensures { OnOk result (line.new.items ≡ line.old.items
         ++ 44 ∷ line_of (index_end_text lo ∷ index_end_text hi ∷ [])) }
 {
