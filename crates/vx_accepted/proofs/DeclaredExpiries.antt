@@ -35,6 +35,7 @@ in_filter_map {X = X} {Y = Y} f (x ∷ xs) y h = with_first (f x) refl (λ later
     with_first (Some v) is rest (inl same) = (x, inl refl, is ∙ ap (λ z. Some z) same)
     with_first (Some v) is rest (inr later) = let found = rest later in (found.0, inr found.1, found.2)
 
+-- each declared expiry of lawful events is a day of the years 2000 to 2099
 pub declared_expiries_are_in_range : DeclaredExpiriesAreInRange
 declared_expiries_are_in_range events x lawful declared =
     let found = in_filter_map declared_expiry events x (in_from_contains (declared_expiries events) x declared) in

@@ -72,6 +72,7 @@ near_minutes_are_in_range days window now x in_days inside =
     let until = inside.2 in
     minutes_ahead now.minute (settlement_minute x.root) (days_until now.day x.date) inside.0 (omega (arith, ints, until, most)) (settles_from x.root) (settles_until x.root)
 
+-- the minutes to an expiry in the next term's window are in range
 pub next_minutes_are_in_range : (days window : ℕ) (now : Moment) (x : Expiry) → AreDaysInRange days → IsWindowInRange window → IsInNextWindow now.day days window x → AreMinutesInRange (minutes_between now x)
 next_minutes_are_in_range days window now x in_days in_window inside =
     let few = in_days.0 in

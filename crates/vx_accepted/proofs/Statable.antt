@@ -151,11 +151,13 @@ module _ (P : ℕ) (x : Expiry) (facts : TermFacts) (run : TermRun P) (scale : I
     w = variance;
   }
 
+-- what a certificate states of a run over lawful facts is in the range of each field
 pub run_is_statable : RunIsStatable
 run_is_statable P x facts run scale in_days lawful is = is_statable P x facts run scale in_days lawful is
 
 -- ---- a figure
 
+-- and what it states of a figure that is decided from a square in range
 pub figure_is_statable : FigureIsStatable
 figure_is_statable P square lo hi cents scale ordered range h =
     let small = unit_at_most P scale in

@@ -35,6 +35,7 @@ rows_are_entries : (P : ℕ) (rows : List StripRow) → certified_rows rows (map
 rows_are_entries P [] = refl
 rows_are_entries P (row ∷ rows) = ap (λ l. certified_entry P (entry_of row) ∷ l) (rows_are_entries P rows)
 
+-- the stated rows of a strip are its entries, each with its contribution rounded down and up
 pub certified_is : (P : ℕ) (rows : List StripRow) (parts : List SumRow) (entries : List StripEntry) → map entry_of rows ≡ entries → parts ≡ map (row_ends P) (map entry_of rows)
     → certified_rows rows parts ≡ map (certified_entry P) entries
 certified_is P rows parts entries is parts_are = ap (certified_rows rows) parts_are ∙ rows_are_entries P rows ∙ ap (map (certified_entry P)) is
@@ -118,6 +119,7 @@ round_up n d positive =
     let small = mod-lt (n + (d - 1)) positive in
     omega (arith, parts, small)
 
+-- a quotient rounded down is at most the same rounded up
 pub in_order : (n d : ℕ) → 0 < d → n / d ≤ (n + (d - 1)) / d
 in_order n d positive =
     let low = div-mul-le_self n d in

@@ -210,5 +210,6 @@ module _ (P : ℕ) (x : Expiry) (facts : TermFacts) (run : TermRun P) (scale : I
   meets Square = tt
   meets IndexEnds = tt
 
+-- what a certificate states of a run over lawful facts meets every test of one term
 pub certified_term_is_true : CertifiedTermIsTrue
 certified_term_is_true P x facts run scale lawful is test = meets P x facts run scale lawful is test

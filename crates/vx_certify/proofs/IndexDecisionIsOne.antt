@@ -10,6 +10,7 @@ use Rattle.vx_bounds.proofs.DecisionIsOne.{decision_is_one}
 use Rattle.vx_term.specs.Laws.{AreInOrder}
 use Rattle.vx_certify.specs.Laws.{IsDecided}
 
+-- a square in order has one pair of ends of the index, and one decision
 pub index_decision_is_one : (P : ℕ) (square : Ends) (lo hi low high : ℤ) (a b : Decision) → AreInOrder square → IsDecided P square lo hi a → IsDecided P square low high b
     → (lo ≡ low) × (hi ≡ high) × (a ≡ b)
 index_decision_is_one P square lo hi low high a b ordered h k =

@@ -40,10 +40,12 @@ root_ends_are_near P square lo hi scale narrow h =
 is_tight : (P : ℕ) (square : Ends) → 62 ≤ P → width square ≤ℤ pos 5788000 → IsTight P square
 is_tight P square scale narrow = record { narrow = narrow; near = λ lo hi h. root_ends_are_near P square lo hi scale narrow h }
 
+-- the ends of an index of narrow variances are at most 200 millionths of a point apart at scale 62, from 7 to 120 days ahead
 pub index_is_tight : IndexIsTight
 index_is_tight P days n1 n2 w1 w2 scale range rising weights near next =
     let more : 7 ≤ days = range.0 in
     is_tight P _ scale (interpolated_narrow w1 w2 n1 n2 (1440 * days) rising (omega arith) weights near next)
 
+-- and so are those of one narrow variance
 pub single_is_tight : SingleIsTight
 single_is_tight P w scale narrow = is_tight P _ scale (single_narrow w narrow)

@@ -44,9 +44,11 @@ same_number Holds s t h l =
       | inr apart ↦ elim apart [ inl less ↦ absurd (h.fails (l.all_before s less)) | inr more ↦ absurd (l.fails (h.all_before t more)) ]
     ]
 
+-- of a certificate at most one test is the first that fails
 pub failing_test_is_one : (events : List Event) (c : Certificate) (s t : Test) → FirstFailing (Meets events c) s → FirstFailing (Meets events c) t → s ≡ t
 failing_test_is_one events c s t h l = sym (test_at-number s) ∙ ap test_at (same_number (Meets events c) s t h l) ∙ test_at-number t
 
+-- of an accepted certificate no test fails
 pub accepted_has_no_failing_test : (events : List Event) (c : Certificate) (test : Test) → Accepts events c → FirstFailing (Meets events c) test → ⊥
 accepted_has_no_failing_test events c test h l = l.fails (h.meets_all test)
 
@@ -54,6 +56,7 @@ accepted_has_no_failing_test events c test h l = l.fails (h.meets_all test)
 half_cent_is_above : (c k : ℕ) (lo hi : ℤ) → (pos (CENT * c) -ℤ pos HALF_CENT) ≤ℤ lo → hi <ℤ pos (CENT * c + HALF_CENT) → lo <ℤ pos (CENT * k + HALF_CENT) → pos (CENT * k + HALF_CENT) ≤ℤ hi → ⊥
 half_cent_is_above c k lo hi low high above at_most = omega (arith, ints)
 
+-- no boundary lies between the ends of a figure that meets the last test
 pub stated_ends_are_decided : (P : ℕ) (figure : CertFigure) → EnclosesIndex P figure → Straddles figure.lo figure.hi → ⊥
 stated_ends_are_decided P figure h s =
     let not_negative = h.not_negative in

@@ -41,6 +41,7 @@ header_says (event.Tick time) rest h = let bad = h.in_order in absurd cc
 header_says (event.Opening time) rest h = let bad = h.in_order in absurd cc
 header_says (event.End count) rest h = let bad = h.in_order in absurd cc
 
+-- at a tick of lawful events there is a trade date, that of the header
 pub trade_date_stands : (events : List Event) (line time : ℕ) → AreLawful events → IsTickAt events line time → (day : DayNo) × (trade_date events ≡ Some day)
 trade_date_stands [] line time lawful h = let bad = h.1 in absurd cc
 trade_date_stands (e ∷ rest) line time lawful h = header_says e rest lawful.0
@@ -91,6 +92,7 @@ level_at_one rows pair k0 P e proper one h =
 zero_exponent : (minutes : ℕ) → (exponent (pos 0) minutes).top ≡ pos 0
 zero_exponent minutes = omega (arith, ints)
 
+-- a certificate of kind `k0` that meets the tests of the place, the rate, the closest pair and the level means its level
 pub means_level : (events : List Event) (v line time : ℕ) (x : Expiry) (pair : CertPair) (k0 : ℕ) → AreLawful events
     → BodyMeets INDEX_DAYS INDEX_WINDOW events v line time (K0 x pair k0) Place
     → BodyMeets INDEX_DAYS INDEX_WINDOW events v line time (K0 x pair k0) Rate
@@ -119,6 +121,7 @@ means_level events v line time x pair k0 lawful a1 a4 a7 a9 =
       };
     }
 
+-- an accepted certificate of kind `k0` means its level
 pub accepted_level_means : (events : List Event) (c : Certificate) (x : Expiry) (pair : CertPair) (k0 : ℕ) → AreLawful events → c.body ≡ K0 x pair k0 → Accepts events c → Means events c
 accepted_level_means events c x pair k0 lawful e h =
     let M : CertBody → Type 0 = λ body. BodyMeans INDEX_DAYS INDEX_WINDOW events c.line c.time body in

@@ -136,6 +136,7 @@ events_in_range =
     (in_range_of_both (series_of weekly_24) prices (series_in_range weekly_24 next_day) prices_in_range) in
     ((le_z_yes tt, le_z_yes tt), (near_day, (next_day, ((near_day, rate_zero), ((next_day, rate_zero), listed)))))
 
+-- each event of the worked day may come after those before it
 pub day_is_lawful : DayIsLawful
 day_is_lawful = lawful_from [] two_terms events_in_range refl
 
@@ -335,6 +336,7 @@ figure_is = (
   refl,
 )
 
+-- its tick is answered with the figure 20.66
 pub day_is_answered : DayIsAnswered
 day_is_answered = record {
   is_tick = (omega arith, refl);
@@ -353,6 +355,7 @@ day_is_answered = record {
   };
 }
 
+-- and the certificate of this figure is accepted
 pub day_is_accepted : DayIsAccepted
 day_is_accepted =
     let answer : TickAnswer = Published 2066 (pos 20657919) (pos 20657920) day_certificate in

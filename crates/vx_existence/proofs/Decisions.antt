@@ -16,6 +16,7 @@ is_above v = omega arith
 no_earlier : (v k : ℕ) → v < 10000 * k + 5000 → next_boundary v ≤ 10000 * k + 5000
 no_earlier v k above = omega (arith, above)
 
+-- no boundary lies between a number and an end below the boundary that comes next after it
 pub not_straddled : (v : ℕ) (hi : ℤ) → hi <ℤ pos (next_boundary v) → IsStraddled (pos v) hi → ⊥
 not_straddled v hi short (b, inl zero, above, most) = omega (arith, ints, zero, above)
 not_straddled v hi short (b, inr (k, is), above, most) =
@@ -27,6 +28,7 @@ below_zero : (n : ℕ) (hi : ℤ) → hi <ℤ pos 0 → IsStraddled (negsuc n) h
 below_zero n hi below (b, inl zero, above, most) = omega (arith, ints, zero, most, below)
 below_zero n hi below (b, inr (k, is), above, most) = omega (arith, ints, is, most, below)
 
+-- of any two ends there is a decision
 pub ends_are_decided : EndsAreDecided
 ends_are_decided (pos v) hi =
     by_lt_z hi (pos (next_boundary v)) (λ short. (Cents (cents_of v), (not_straddled v hi short, omega (arith, ints), v, refl, refl)))

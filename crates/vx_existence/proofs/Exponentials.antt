@@ -20,6 +20,7 @@ value_at zero term k h = absurd (omega (arith, h))
 value_at (suc n) term zero h = refl
 value_at (suc n) term (suc k) h = value_at n (λ j. term (suc j)) k (omega (arith, h))
 
+-- the first 14 values of a function are its terms
 pub terms_of : (term : ℕ → ℕ) → IsTerms term (first_values 14 term)
 terms_of term = record { count = count_of_values 14 term; each = value_at 14 term }
 
@@ -31,6 +32,7 @@ exp_run_at P x = record {
   value = signed_ends P x.top x.bottom;
 }
 
+-- the numbers that are computed of an exponent are a run of its exponential
 pub is_exp_run : (P : ℕ) (x : Fraction) → IsExpRun P x (exp_run_at P x)
 is_exp_run P x = record {
   low_terms = terms_of (low_term (2 ^ P) (nat_abs x.top) x.bottom);

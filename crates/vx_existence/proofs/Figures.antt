@@ -23,6 +23,7 @@ of_decision P line time days near next lo hi ends (Cents cents) decides =
 of_decision P line time days near next lo hi ends Straddle decides = (UndecidedCents lo hi, (ends, decides))
 of_decision P line time days near next lo hi ends Negative decides = (Refused NegativeVariance Both, (lo, hi, ends, decides))
 
+-- any two runs have an answer, at every scale, for the tick of any line at any minute and for any days
 pub every_figure_has_answer : EveryFigureHasAnswer
 every_figure_has_answer P line time days near next =
     let found = square_has_index_ends P (square_of_runs days near next) in

@@ -81,6 +81,7 @@ module _ (u c : ℤ) (positive : pos 0 <ℤ u) where
 
 -- ---- the ends
 
+-- the index has ends, whatever the ends of its square
 pub square_has_index_ends : SquareHasIndexEnds
 square_has_index_ends P square =
     let low = greatest_at_most (unit P) (pos (10 ^ 16) *ℤ square.lo) (unit_positive P) in

@@ -35,16 +35,20 @@ use Rattle.vx_existence.proofs.Levels.{level_is_answered}
 abbrev row_of : StripEntry → StripRow
 row_of entry = record { strike = entry.strike; d = entry.d; q4 = entry.q4 }
 
+-- the strip with these entries
 abbrev pub strip_of : List StripEntry → Strip
 strip_of entries = record { rows = map row_of entries }
 
+-- whose entries are these
 pub entries_back : (entries : List StripEntry) → entries_of (strip_of entries) ≡ entries
 entries_back [] = refl
 entries_back (entry ∷ entries) = ap (λ rest. entry ∷ rest) (entries_back entries)
 
+-- the ends and the sums of entries
 abbrev pub sum_of : (P : ℕ) → List StripEntry → StripSum P
 sum_of P entries = record { rows = map (row_ends P) entries; total = total_ends P entries }
 
+-- which are their sum, where the upper sum is small enough
 pub is_sum_of : (P : ℕ) (entries : List StripEntry) → upper_total P entries ≤ STRIP_TOTAL_MAX * 2 ^ P → IsSumOf P entries (sum_of P entries)
 is_sum_of P entries accepted = record { rows = refl; total = refl; accepted = accepted }
 

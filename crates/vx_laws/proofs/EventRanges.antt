@@ -34,10 +34,12 @@ use Rattle.vx_feed.specs.Ranges.{IsMinute, IsPrice, IsInRange}
 -- ---- what an answer says of the tests before it
 
 module _ {A E : Type 0} where
+  -- where the choice of a fault or a result came to a value, its condition was false and the result is that value
   pub past_fault : (a : Bool) (x : E) (r : Result A E) (v : A) → cond a (Err x) r ≡ Ok v → (a ≡ false) × (r ≡ Ok v)
   past_fault true x r v h = absurd cc
   past_fault false x r v h = (refl, h)
 
+  -- and where the result stands first, the condition was true
   pub past_test : (a : Bool) (x : E) (r : Result A E) (v : A) → cond a r (Err x) ≡ Ok v → (a ≡ true) × (r ≡ Ok v)
   past_test true x r v h = (refl, h)
   past_test false x r v h = absurd cc
@@ -259,5 +261,6 @@ counted_range : (k : Option Kind) (f : List (List ℕ)) (e : Event) → event_if
 counted_range None f e h = absurd cc
 counted_range (Some k) f e h = kind_range k f e (past_test (length f == field_count k) fault.Fields (event_of_kind k f) e h).1
 
+-- the event that fields say is in range
 pub event_in_range : (f : List (List ℕ)) (e : Event) → event_of_fields f ≡ Ok e → IsInRange e
 event_in_range f e h = counted_range (kind_of_text (field f 1)) f e h

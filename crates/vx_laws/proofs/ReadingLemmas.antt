@@ -84,11 +84,14 @@ from_told (line ∷ rest) ending before h =
 told : (text : List ℕ) → IsTold (reading_of text)
 told text = from_told (lines.lines_of LINE_LEN_MAX text).lines (lines.lines_of LINE_LEN_MAX text).ending [] tt
 
+-- the lawful prefix of every text is lawful
 pub prefix_is_lawful : PrefixIsLawful
 prefix_is_lawful text = (told text).lawful
 
+-- a text's bad line is the one after its lawful prefix
 pub bad_line_follows_prefix : BadLineFollowsPrefix
 bad_line_follows_prefix text bad h = (told text).follows bad h
 
+-- the events of a lawful feed are lawful, and end with an END, the only one
 pub lawful_feed_ends : LawfulFeedEnds
 lawful_feed_ends text h = ((told text).lawful, end_is_last (reading_of text).events (told text).lawful ((told text).ends h))

@@ -148,8 +148,10 @@ read_lines =
     ∙ step (take 13 sample_feed) (codes "V,08:30") (drop 14 sample_lines) (event.Tick 510) (is_read (take 13 sample_feed) (codes "V,08:30") (event.Tick 510) refl refl says_tick refl)
     ∙ step (take 14 sample_feed) (codes "END,13") (drop 15 sample_lines) (event.End 13) (is_read (take 14 sample_feed) (codes "END,13") (event.End 13) refl refl says_end refl)
 
+-- each line of the small feed's text says its event, and no line is bad
 pub sample_text_is_read : SampleTextIsRead
 sample_text_is_read = ap (reading_on []) lines_are ∙ read_lines
 
+-- so the text is a lawful feed
 pub sample_text_is_lawful : SampleTextIsLawful
 sample_text_is_lawful = ap (λ (r : Reading). r.bad) sample_text_is_read

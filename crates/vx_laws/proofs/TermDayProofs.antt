@@ -20,6 +20,7 @@ pub in_2014 : (m d place : ℕ) → day_of_year (pos 2014) m d ≡ place → 1 �
 in_2014 m d place e first =
     omega (arith, signed_arith, days_from_civil-day_count (pos 2014) m d, day_count-day_of_year (pos 2014) m d first, year_start (pos 2014) 12013 refl (omega arith))
 
+-- the days of the example have these numbers
 pub days_are_numbered : DaysAreNumbered
 unfolding days_of_months
 days_are_numbered = record {
@@ -42,6 +43,7 @@ GoesFirstAsNear today e other = IsInNearWindow today 30 7 other → IsTakenBefor
 abbrev GoesFirstAsNext : DayNo → Expiry → Expiry → Type 0
 GoesFirstAsNext today e other = IsInNextWindow today 30 7 other → IsTakenBeforeAsNext e other
 
+-- on 23 September the near term is the standard expiry, 24 days ahead
 pub near_of_september_23 : NearOfSeptember23
 near_of_september_23 = (
   record {
@@ -56,6 +58,7 @@ near_of_september_23 = (
   refl,
 )
 
+-- and the next one the first weekly expiry, 31 days ahead
 pub next_of_september_23 : NextOfSeptember23
 next_of_september_23 = (
   record {
@@ -70,6 +73,7 @@ next_of_september_23 = (
   refl,
 )
 
+-- on 24 September the near term is the first weekly expiry, 30 days ahead
 pub near_of_september_24 : NearOfSeptember24
 near_of_september_24 = (
   record {
@@ -84,6 +88,7 @@ near_of_september_24 = (
   refl,
 )
 
+-- and the next one the second weekly expiry, 37 days ahead
 pub next_of_september_24 : NextOfSeptember24
 next_of_september_24 = (
   record {
@@ -98,8 +103,10 @@ next_of_september_24 = (
   refl,
 )
 
+-- where no expiry is declared there is no near term
 pub no_near_of_none : NoNearOfNone
 no_near_of_none today days window e h = elim (in_from_contains [] e h.declared) [ ]
 
+-- and no next term
 pub no_next_of_none : NoNextOfNone
 no_next_of_none today days window e h = elim (in_from_contains [] e h.declared) [ ]

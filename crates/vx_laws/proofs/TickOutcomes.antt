@@ -130,9 +130,11 @@ by_terms facts a b c d (Some n) (Some m) near_is next_is h l =
       ]
     ]
 
+-- of a tick's two terms one is refused, a forward is undecided, or both levels are found
 pub tick_is_answered : TickIsAnswered
 tick_is_answered facts a b c d h l = by_terms facts a b c d facts.near facts.next refl refl h l
 
+-- a tick with a refusal does not have both levels and no refusal
 pub refused_tick_is_not_sound : RefusedTickIsNotSound
 refused_tick_is_not_sound facts h sound = sound.none_refuses h.reason h.of_terms h.is_first.holds
 
@@ -154,8 +156,10 @@ not_at_14 negative_variance e = omega arith
 later : (r : TickReason) (place : ℕ) → (tick_place r ≡ place → ⊥) → (tick_place r < place → ⊥) → place < tick_place r
 later r place at less = elim (cases_lt place (tick_place r)) [ inl more ↦ more | inr fine ↦ elim (cases_lt (tick_place r) place) [ inl low ↦ absurd (less low) | inr high ↦ absurd (at (omega arith)) ] ]
 
+-- where the near forward is undecided, and a first refusal holds too, the refusal's place comes later
 pub undecided_near_comes_first : UndecidedNearComesFirst
 undecided_near_comes_first facts strike lo hi r h l = later r 5 (not_at_5 r) (λ low. h.none_earlier r low l.holds)
 
+-- and so where the next forward is
 pub undecided_next_comes_first : UndecidedNextComesFirst
 undecided_next_comes_first facts strike lo hi r h l = later r 14 (not_at_14 r) (λ low. h.none_earlier r low l.holds)

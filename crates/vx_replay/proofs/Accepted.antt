@@ -44,9 +44,11 @@ module _ (days : ℕ) (x y : Expiry) (f g : TermFacts) (near next : TermRun SCAL
       subst (λ (n : ℕ). AreMinutesOfPicked days near.minutes n) (sym is_next.minutes_are)
       (subst (λ (n : ℕ). AreMinutesOfPicked days n g.minutes) (sym is_near.minutes_are) picked)
 
+  -- the ends of the near term's variance are in order
   pub near_ordered : near.w.lo ≤ℤ near.w.hi
   near_ordered = let n = is_near.numbers_are in subst (λ (w : Ends). w.lo ≤ℤ w.hi) (sym n.variance_is) (variance_is_ordered SCALE near.exp.value near.sum.total near.g)
 
+  -- and those of the next term's
   pub next_ordered : next.w.lo ≤ℤ next.w.hi
   next_ordered = let n = is_next.numbers_are in subst (λ (w : Ends). w.lo ≤ℤ w.hi) (sym n.variance_is) (variance_is_ordered SCALE next.exp.value next.sum.total next.g)
 
@@ -55,9 +57,11 @@ module _ (days : ℕ) (x y : Expiry) (f g : TermFacts) (near next : TermRun SCAL
   unfolding unit
   variance_range w e s g test = let low = (test.low_range).0 in let high = (test.high_range).1 in record { low = omega (arith, ints, low); high = omega (arith, ints, high) }
 
+  -- the near term's variance is in range
   pub near_range : IsVarianceInRange SCALE near.w
   near_range = variance_range near.w near.exp.value near.sum.total near.g (certified_term_is_true SCALE x f near scale near_lawful is_near Variance)
 
+  -- and the next term's
   pub next_range : IsVarianceInRange SCALE next.w
   next_range = variance_range next.w next.exp.value next.sum.total next.g (certified_term_is_true SCALE y g next scale next_lawful is_next Variance)
 
@@ -65,6 +69,7 @@ module _ (days : ℕ) (x y : Expiry) (f g : TermFacts) (near next : TermRun SCAL
   pub square_ordered : (square_of_runs days near next).lo ≤ℤ (square_of_runs days near next).hi
   square_ordered = (square_is_ordered (DAY_MINUTES * days) near.minutes next.minutes near.w next.w near_ordered next_ordered).0
 
+  -- so the square of the two runs is in range
   pub square_in_range : IsSquareInRange SCALE (square_of_runs days near next)
   square_in_range =
       let m = minutes_of_runs in

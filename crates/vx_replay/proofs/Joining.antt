@@ -165,6 +165,7 @@ module _ (days : ℕ) (x y : Expiry) (f g : TermFacts) (in_days : AreDaysInRange
   answers_are_joinable (term.Refused refusal) next h k = tt
   answers_are_joinable (term.UndecidedForward strike lo hi) next h k = tt
 
+-- the answers for the two terms that are picked of lawful events can be joined
 pub picked_answers_are_joinable : PickedAnswersAreJoinable
 picked_answers_are_joinable days window events now x y near next in_days in_window lawful is_near is_next h k =
     let picked = picked_minutes_are_in_range days window now (declared_expiries events) x y in_days in_window is_near is_next in

@@ -15,6 +15,7 @@ chosen_refuses : (P : ℕ) (f : TermFacts) (reason : TermReason) → SomeTermRef
 chosen_refuses P f reason h = subst (λ (facts : TermFacts). TermRefuses P facts reason) (sym (same_Some f h.facts h.is_chosen)) h.refuses
 
 module _ (P : ℕ) (f g : TermFacts) (target : ℕ) where
+  -- the facts of a tick with both terms chosen
   abbrev pub both : TickFacts
   both = record { near = Some f; next = Some g; target = target }
 

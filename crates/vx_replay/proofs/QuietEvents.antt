@@ -42,6 +42,7 @@ IsOfOtherKind e =
     ⊎ (((time : ℕ) × (s : Symbol) × (price : ℕ) × (e ≡ event.Trade time s price))
     ⊎ (((time : ℕ) × (e ≡ event.Opening time)) ⊎ ((count : ℕ) × (e ≡ event.End count)))))))
 
+-- each event that declares no expiry and is no tick is quiet
 pub quiet_from : (e : Event) → IsOfOtherKind e → IsQuiet e
 quiet_from e (inl (day, is)) = quiet e (subst IsOther (sym is) tt)
 quiet_from e (inr (inl (x, rate, is))) = quiet e (subst IsOther (sym is) tt)

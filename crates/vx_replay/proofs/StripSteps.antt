@@ -31,6 +31,7 @@ use Rattle.vx_replay.specs.StripsAfter.{Holding, touched, TermStrips, near_facts
 
 -- ---- a run's strip is selected
 
+-- the strip of a run is the strip that is selected for it
 pub run_selects : (x : Expiry) (facts : TermFacts) (run : TermRun SCALE) → IsRun SCALE x facts run → IsSelectedStrip SCALE facts run.strip
 run_selects x facts run h =
     let n = h.numbers_are in
@@ -58,6 +59,7 @@ strip_count rows level =
     let few = count_by-le-length (is_selected rows level) rows in
     omega (arith, all, some, few)
 
+-- a selected strip has no more touched rows than the term has rows
 pub selected_is_few : (facts : TermFacts) (held : Holding) (s : Strip) → IsSelectedStrip SCALE facts s → touched held s ≤ length facts.rows
 selected_is_few facts held s (rate, stands, selects) =
     let counted = count_by-le-length (is_touched (kept_entries held)) (entries_of s) in
@@ -92,6 +94,7 @@ module _ (x : Expiry) (facts : TermFacts) (before after : Holding) (start count 
     few = selected_is_few facts before k.strip k.selected;
   }
 
+  -- after any answer for one term its kept strip is what it was or the selected one, and the count rose by no more than its touched rows
   pub may_hold : (result : Result (TermAnswer SCALE) NoMemory) → IfOk result (IsTermAnswer SCALE x facts)
       → IsKeptAfter SCALE (IsSelectedStrip SCALE facts) before after start count result → MayHold facts before after start count
   may_hold (Ok (term.Run run)) h k =
@@ -115,6 +118,7 @@ not_reached facts before count = record { limit = 0; may = inl (refl, refl); lea
 -- ---- both terms
 
 module _ (events : List Event) (time : ℕ) (before after : List Holding) (strips : TermStrips events time before after) (start mid count : ℕ) where
+  -- and so after the answers for both terms
   pub strips_may_hold : MayHold (near_facts strips) strips.near_strip.before strips.near_strip.after start mid
       → MayHold (next_facts strips) strips.next_strip.before strips.next_strip.after mid count → MayHoldStrips events time before after start count
   strips_may_hold a b =
@@ -177,6 +181,7 @@ module _ (events : List Event) (time : ℕ) (before after : List Holding) (start
   answer_otherwise (Refused (Term refusal) which) h = h
   answer_otherwise (Refused NegativeVariance which) h = inr (runs_may_hold events time before after start count h)
 
+  -- and so too where memory was refused
   pub result_otherwise : (result : Result TickAnswer NoMemory) → AreKeptAfterTick events time before after start count result → AreKeptOtherwise events time before after start count
   result_otherwise (Ok answer) h = answer_otherwise answer h
   result_otherwise (Err memory) h = h

@@ -49,6 +49,7 @@ pub record ArePicked (events : List Event) (now : Moment) (i j : ℕ) : Type 0 w
   pub is_next : IsNextTerm now.day INDEX_DAYS INDEX_WINDOW (declared_expiries events) next
   pub next_at : slice_get (declared_expiries events) j ≡ Some next
 
+-- the expiries at two places that pass the tests of the near and the next term are the picked ones
 pub picked_at : (events : List Event) (now : Moment) (xs : List Expiry) (i j : ℕ) → xs ≡ declared_expiries events
     → IsSomeAnd (slice_get xs i) (IsNearTerm now.day INDEX_DAYS INDEX_WINDOW xs) → IsSomeAnd (slice_get xs j) (IsNextTerm now.day INDEX_DAYS INDEX_WINDOW xs)
     → ArePicked events now i j
@@ -157,6 +158,7 @@ module _ (events : List Event) (now : Moment) (before : List Holding) (day_is : 
       after_is = q.after_is ∙ ap (λ l. set l j q.holds) p.after_is;
     }
 
+    -- after both terms were looked at each strip is what it was or the selected one
     pub both_may_hold : IsTermAnswer SCALE near f a → IfOk result (IsTermAnswer SCALE next g) → MayHoldStrips events now.minute before after start count
     unfolding both_strips
     both_may_hold h k =

@@ -10,6 +10,7 @@ use Rattle.vx_feed.specs.Standing.{standing_rate}
 use Rattle.vx_formula.specs.Term.{TermFacts}
 use Rattle.vx_claims.specs.Seen.{term_facts}
 
+-- the rows, the rate and the minutes of an expiry are the facts of its term
 pub facts_shown : (events : List Event) (now : Moment) (y x : Expiry) (rows : List StrikeRow) (rate : Option ℤ) (minutes : ℕ)
     → y ≡ x → rate ≡ standing_rate y events → rows ≡ listed_rows y events → minutes ≡ minutes_between now y
     → ◌≡◌ {A = TermFacts} (record { rows = rows; rate = rate; minutes = minutes }) (term_facts events now x)

@@ -94,6 +94,7 @@ module _ (events : List Event) (now : Moment) (line days window : ℕ) where
   steps_are_one a b (inr (inr h)) (inr (inl (none, f))) = absurd (next_or_none h.next none h.is_next)
   steps_are_one a b (inr (inr h)) (inr (inr k)) = of_terms_one a b h k
 
+-- a tick has at most one answer
 pub tick_answer_is_one : (days window : ℕ) (events : List Event) (line time : ℕ) (a b : TickAnswer)
     → IsTickAnswer days window events line time a → IsTickAnswer days window events line time b → a ≡ b
 tick_answer_is_one days window events line time a b h k =

@@ -42,9 +42,11 @@ use Rattle.vx_replay.proofs.LawfulTicks.{tick_answer_is_lawful}
 
 -- ---- the index's days
 
+-- 30 days are days that an index may look ahead
 pub index_days : AreDaysInRange INDEX_DAYS
 index_days = (omega arith, omega arith)
 
+-- and 7 are a window that it may have
 pub index_window : IsWindowInRange INDEX_WINDOW
 index_window = omega arith
 
@@ -67,6 +69,7 @@ some_is : {A : Type 0} (o : Option A) → IsSome o → (x : A) × (o ≡ Some x)
 some_is None h = absurd (false≢true h)
 some_is (Some x) h = (x, refl)
 
+-- where a tick may come next there is a trade date
 pub day_of : (events : List Event) (time : ℕ) → AreLawful events → IsLawfulNext events (event.Tick time) → (day : DayNo) × (trade_date events ≡ Some day)
 day_of events time lawful next = some_is (trade_date events) (has_day events time lawful next)
 
@@ -118,6 +121,7 @@ no_term_is_not_joined line time days which (term.Run a) (term.UndecidedForward s
 no_term_is_not_joined line time days which (term.Refused refusal) b joined = cc
 no_term_is_not_joined line time days which (term.UndecidedForward strike lo hi) b joined = cc
 
+-- an answer that two picked terms give is an answer after the events, since it names no missing term
 pub after_of_terms : (events : List Event) (now : Moment) (line days window : ℕ) (answer : TickAnswer) → IsAnswerOfTerms events now line days window answer
     → IsAnswerAfter events now line days window answer
 after_of_terms events now line days window (Published cents lo hi certificate) h = h
@@ -141,12 +145,15 @@ some_and : {A : Type 0} (o : Option A) (Test : A → Type 0) → IsSomeAnd o Tes
 some_and None Test h = absurd h
 some_and (Some x) Test h = (x, refl, h)
 
+-- where the item at a place passes a test, there is one
 pub stands_at : {A : Type 0} (xs : List A) (place : ℕ) (Test : A → Type 0) → IsSomeAnd (slice_get xs place) Test → StandsAt xs place Test
 stands_at xs place Test h = let s = some_and (slice_get xs place) Test h in record { x = s.0; at = s.1; passes = s.2 }
 
+-- the near term settles after the tick
 pub near_is_ahead : (now : Moment) (xs : List Expiry) (x : Expiry) → IsNearTerm now.day INDEX_DAYS INDEX_WINDOW xs x → IsAhead now x
 near_is_ahead now xs x h = let w = h.in_window in let most = w.2 in (w.0, omega (arith, ints, most))
 
+-- and so does the next term
 pub next_is_ahead : (now : Moment) (xs : List Expiry) (x : Expiry) → IsNextTerm now.day INDEX_DAYS INDEX_WINDOW xs x → IsAhead now x
 next_is_ahead now xs x h = let w = h.in_window in let least = w.0 in let most = w.1 in (omega (arith, ints, least), omega (arith, ints, most))
 

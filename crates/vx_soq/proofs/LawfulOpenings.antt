@@ -150,6 +150,7 @@ module _ (events : List Event) (day : DayNo) (time : ℕ) (lawful : AreLawful ev
       pub square_ordered : square.lo ≤ℤ square.hi
       square_ordered = (square_is_ordered 0 0 0 a.w a.w ordered ordered).1
 
+      -- the square of the opening's run is in range
       pub square_in_range : IsSquareInRange SCALE square
       square_in_range = single_range SCALE a.w ordered variance_range
 

@@ -95,5 +95,6 @@ module _ (events : List Event) where
   steps_are_one a b (inr (inr h)) (inr (inl (k, f))) = absurd (term_or_none k a h)
   steps_are_one a b (inr (inr h)) (inr (inr k)) = of_term_one a b h k
 
+-- an opening has at most one answer
 pub opening_answer_is_one : (events : List Event) (a b : OpeningAnswer) → IsOpeningAnswer events a → IsOpeningAnswer events b → a ≡ b
 opening_answer_is_one events a b h k = steps_are_one events a b (steps events a h) (steps events b k)

@@ -117,6 +117,7 @@ module _ (P minutes : ℕ) (low high : List ℕ) (ends : Ends) (some : 1 ≤ min
       turned : (r m p : ℕ) → suc p ≡ suc r * m → negsuc r *ℤ pos m ≡ negsuc p
       turned r m p h = omega (arith, ints)
 
+-- ends that meet the exponential's tests enclose each fraction of the bracket of depth 12
 pub exponential_enclosed : (P minutes : ℕ) (rate : ℤ) (low high : List ℕ) (ends : Ends) (e : Fraction) → 1 ≤ minutes
     → AreTaylorTerms P (nat_abs rate * minutes) year low high → EncloseExponential P rate low high ends
     → Bracket 12 (exponent rate minutes) e → Encloses (2 ^ P) ends e

@@ -36,11 +36,13 @@ times_anti a f g p h =
       ap (λ n. (a *ℤ f.top) *ℤ pos n) one_g,
     )
 
+-- a number of which R holds, and which over Q has at most the product with `a` that `w` has
 pub record PicksLow (a : ℤ) (Q : ℕ) (w : Fraction) (R : ℤ → Type 0) : Type 0 where
   pub picked : ℤ
   pub said : R picked
   pub below : (whole a *ᶠ over picked Q) ≤ᶠ (whole a *ᶠ w)
 
+-- and one which over Q has at least that product
 pub record PicksHigh (a : ℤ) (Q : ℕ) (w : Fraction) (R : ℤ → Type 0) : Type 0 where
   pub picked : ℤ
   pub said : R picked
@@ -98,6 +100,7 @@ module _ (P target n1 n2 : ℕ) (some : 1 ≤ target) (later : n1 < n2) where
   abbrev weights : Fraction → Fraction → Fraction
   weights f g = whole (pos n2 -ℤ pos target) *ᶠ f +ᶠ whole (pos target -ℤ pos n1) *ᶠ g
 
+  -- the square of two proper variances is proper
   pub square_proper : (f g : Fraction) → IsProper f → IsProper g → IsProper (index_square target f n1 g n2)
   square_proper f g p q =
       IsProper-/ᶠ (whole (pos YEAR_MINUTES) *ᶠ weights f g) (target * (n2 - n1))
@@ -106,6 +109,7 @@ module _ (P target n1 n2 : ℕ) (some : 1 ≤ target) (later : n1 < n2) where
       (IsProper-*ᶠ (whole (pos n2 -ℤ pos target)) f (omega arith) p) (IsProper-*ᶠ (whole (pos target -ℤ pos n1)) g (omega arith) q)))
       (one_span target n1 n2 some later)
 
+  -- ends that meet the test of the square enclose the square of any two variances that their ends enclose
   pub square_enclosed : (w1 w2 x : Ends) (f g : Fraction) → EnclosesSquare P target n1 n2 w1 w2 x → Encloses (2 ^ P) w1 f → Encloses (2 ^ P) w2 g → Encloses (2 ^ P) x (index_square target f n1 g n2)
   square_enclosed w1 w2 x f g tests hf hg =
       let Q = 2 ^ P in
@@ -135,12 +139,14 @@ module _ (P target n1 n2 : ℕ) (some : 1 ≤ target) (later : n1 < n2) where
 
 -- ---- one term
 
+-- the square of one proper variance is proper
 pub single_proper : (f : Fraction) → IsProper f → IsProper (single_square f)
 single_proper f p = omega arith
 
 single_form : (x : ℤ) (Q : ℕ) → x *ℤ pos (1 * Q * THIRTY_DAYS) ≡ (x *ℤ pos THIRTY_DAYS) *ℤ pos Q
 single_form x Q = let order : 1 * Q * THIRTY_DAYS ≡ THIRTY_DAYS * Q = omega arith in omega (arith, ints, ap (λ k. x *ℤ pos k) order, mul_assoc x (pos THIRTY_DAYS) (pos Q))
 
+-- and ends that meet its test enclose the square of any variance that the variance's ends enclose
 pub single_enclosed : (P : ℕ) (w x : Ends) (f : Fraction) → EnclosesSingleSquare P w x → Encloses (2 ^ P) w f → Encloses (2 ^ P) x (single_square f)
 single_enclosed P w x f tests h =
     let Q = 2 ^ P in
@@ -162,6 +168,7 @@ in_units x = whole (pos (10 ^ 16)) *ᶠ x
 units_proper : (x : Fraction) → IsProper x → IsProper (in_units x)
 units_proper x p = omega arith
 
+-- the index of any square between a figure's ends of the square lies between the stated ends of the index
 pub between_stated : (P : ℕ) (figure : CertFigure) (x : Fraction) → EnclosesIndex P figure → Encloses (2 ^ P) figure.x x → BetweenAt figure.lo figure.hi x
 between_stated P figure x tests h =
     let Q = 2 ^ P in
@@ -181,6 +188,7 @@ between_stated P figure x tests h =
           (omega (arith, ints, ap (λ z. z *ℤ pos (1 * Q)) hi_square, ap (λ k. (hi *ℤ hi) *ℤ pos k) one, tests.high));
     }
 
+-- and the figure is this index rounded
 pub rounds_stated : (P : ℕ) (figure : CertFigure) (x : Fraction) → IsProper x → EnclosesIndex P figure → BetweenAt figure.lo figure.hi x → RoundsAt figure.cents x
 rounds_stated P figure x proper tests h =
     let lo = figure.lo in

@@ -186,6 +186,7 @@ means_single events v line time t figure lawful all =
 
 -- ---- the scale of a version
 
+-- a scale of which each unit is a whole number of units of the finest
 pub record AtScale (P : ℕ) : Type 0 where
   pub factor : ℕ
   pub scale : 2 ^ SCALE ≡ 2 ^ P * factor
@@ -488,5 +489,6 @@ body_means days window events v line time (Index stated near next figure) fits l
     means_index days window events v line time stated near next figure fits lawful version all
 body_means days window events v line time (Soq t figure) fits lawful version all = means_opening events v line time t figure lawful version all
 
+-- an accepted certificate over a lawful feed means what its kind says, for any days and window that a feed may reach
 pub accepted_means : AcceptedMeans
 accepted_means days window events c fits lawful h = body_means days window events c.v c.line c.time c.body fits lawful h.version h.meets_all

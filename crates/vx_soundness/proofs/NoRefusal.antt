@@ -95,6 +95,7 @@ module _ (P j : ℕ) (scale : 2 ^ SCALE ≡ 2 ^ P * j) (facts : TermFacts) (t : 
   in_strip : (row : CertRow) → In t.rows row → In (strip facts.rows t.k0) (stated_entry row)
   in_strip row h = let F : List StripEntry → Type 0 = λ entries. In entries (stated_entry row) in subst F (meets Strip).is_strip (map_in stated_entry t.rows row h)
 
+  -- a term that meets its tests is refused for no reason
   pub not_refused : (reason : TermReason) → ¬ TermRefuses SCALE facts reason
   not_refused no_rate h = let stated = meets Rate in absurd cc
   not_refused no_pair h =

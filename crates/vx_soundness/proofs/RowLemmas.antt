@@ -20,6 +20,7 @@ use Rattle.vx_formula.proofs.Lists.{In, in_from_contains, contains_from_in, in_m
 
 -- ---- strikes in range
 
+-- each of the events is in range
 abbrev pub AllInRange : List Event → Type 0
 AllInRange events = (e : Event) → In events e → IsInRange e
 
@@ -28,6 +29,7 @@ in_range_after before [] h e none = elim none [ ]
 in_range_after before (d ∷ events) h e (inl same) = subst IsInRange same (h.0).in_range
 in_range_after before (d ∷ events) h e (inr later) = in_range_after (before ++ d ∷ []) events h.1 e later
 
+-- lawful events are in range
 pub lawful_in_range : (events : List Event) → AreLawful events → AllInRange events
 lawful_in_range events h = in_range_after [] events h
 
@@ -38,6 +40,7 @@ in_take zero (d ∷ events) e h = elim h [ ]
 in_take (suc n) (d ∷ events) e (inl same) = inl same
 in_take (suc n) (d ∷ events) e (inr later) = inr (in_take n events e later)
 
+-- and so are the first of events that are
 pub take_in_range : (n : ℕ) (events : List Event) → AllInRange events → AllInRange (take n events)
 take_in_range n events h = λ e at. h e (in_take n events e at)
 
@@ -50,6 +53,7 @@ in_before_opening (d ∷ events) e h =
       | inr other ↦ elim (subst P (cond-false (is_opening d) [] (d ∷ before_opening events) other) h) [ inl same ↦ inl same | inr later ↦ inr (in_before_opening events e later) ]
     ]
 
+-- and those before the opening
 pub opening_in_range : (events : List Event) → AllInRange events → AllInRange (before_opening events)
 opening_in_range events h = λ e at. h e (in_before_opening events e at)
 
@@ -106,6 +110,7 @@ entry_from level below (row ∷ rows) entry (inr later) =
 pub entry_is_selected : (rows : List StrikeRow) (level : ℕ) (entry : StripEntry) → In (strip rows level) entry → (row : StrikeRow) × In (selected_rows rows level) row × (row.strike ≡ entry.strike)
 entry_is_selected rows level entry h = entry_from level None (selected_rows rows level) entry h
 
+-- the strike of each entry of a strip is listed
 pub entry_is_listed : (rows : List StrikeRow) (level : ℕ) (entry : StripEntry) → In (strip rows level) entry → IsListed rows entry.strike
 entry_is_listed rows level entry h =
     let found = entry_is_selected rows level entry h in

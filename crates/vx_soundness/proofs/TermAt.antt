@@ -35,9 +35,11 @@ pub record HoldsAt (P : ℕ) (facts : TermFacts) (t : CertTerm) (e : Fraction) :
   pub enclosed : Encloses (2 ^ P) t.w (variance_at (stated_term facts t) t.k0 e)
 
 module _ (P : ℕ) (facts : TermFacts) (t : CertTerm) (meets : (test : Test) → TermMeets P facts t test) (some : 1 ≤ facts.minutes) (positive : (k : ℕ) → IsListed facts.rows k → 1 ≤ k) where
+  -- the term that a certificate states is one of the facts that its tests speak of
   pub term_of_facts : IsTermOf facts (stated_term facts t)
   term_of_facts = record { rows_are = refl; rate_stands = meets Rate; minutes_are = refl; pair_is_closest = meets ClosestPair }
 
+  -- the strike of each stated row is above zero
   pub stated_row_positive : (row : CertRow) → In t.rows row → 1 ≤ row.strike
   stated_row_positive row h =
       let at : In (map stated_entry t.rows) (stated_entry row) = map_in stated_entry t.rows row h in
@@ -49,6 +51,7 @@ module _ (P : ℕ) (facts : TermFacts) (t : CertTerm) (meets : (test : Test) →
       let F : List StripEntry → Type 0 = λ entries. IsSummed (2 ^ P) (sum_by (λ (row : CertRow). row.lo) t.rows) (sum_by (λ (row : CertRow). row.hi) t.rows) (total_of entries) in
       subst F (meets Strip).is_strip (rows_summed P t.rows (λ row h. (all_in (EnclosesContribution P) t.rows row (meets Contributions) h, stated_row_positive row h)))
 
+  -- at each exponential of the bracket of depth 12 the stated level is the level, and the stated ends enclose the variance
   pub holds_at : (e : Fraction) → InBracket (stated_term facts t) 12 e → HoldsAt P facts t e
   holds_at e member =
       let F : ℕ → Type 0 = λ m. AreTaylorTerms P (nat_abs t.rate * m) (YEAR_MINUTES * RATE_UNITS) t.t_lo t.t_hi in
@@ -74,5 +77,6 @@ module _ (P : ℕ) (facts : TermFacts) (t : CertTerm) (meets : (test : Test) →
             (omega (arith, ints, e_positive)) g_top summed.nonneg e_in g_in s_in;
       }
 
+  -- so the stated level is the term's
   pub stated_level : IsLevel (stated_term facts t) t.k0
   stated_level = record { depth = 12; holds = λ e member. (holds_at e member).level }

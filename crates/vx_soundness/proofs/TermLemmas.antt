@@ -30,9 +30,11 @@ forward_form K v Q s t =
 twice_one : (v : ℕ) → 1 * (1 * v) ≡ v
 twice_one v = omega arith
 
+-- the forward at a proper exponential is proper
 pub forward_proper : (pair : CertPair) (e : Fraction) → IsProper e → IsProper (forward_at (stated_pair pair) e)
 forward_proper pair e h = omega arith
 
+-- ends that meet the forward's test enclose the forward at each exponential between the ends of it
 pub forward_enclosed : (P : ℕ) (pair : CertPair) (e : Fraction) (ends f : Ends) → EnclosesForward P pair ends f → Encloses (2 ^ P) ends e → Encloses (2 ^ P) f (forward_at (stated_pair pair) e)
 forward_enclosed P pair e ends f tests h =
     let Q = 2 ^ P in
@@ -47,6 +49,7 @@ forward_enclosed P pair e ends f tests h =
 
 -- ---- the level
 
+-- the level of two ends is the level at each forward between them
 pub level_enclosed : (P : ℕ) (rows : List StrikeRow) (f : Ends) (k0 : ℕ) (forward : Fraction) → IsProper forward → IsLevelOfEnds P rows f k0 → Encloses (2 ^ P) f forward → IsGreatestBelow rows forward k0
 level_enclosed P rows f k0 forward proper tests h = record {
   is_listed = tests.is_listed;
@@ -60,6 +63,7 @@ level_enclosed P rows f k0 forward proper tests h = record {
 
 -- ---- the excess
 
+-- of two fractions over a number the order stays
 pub quotient_mono : (f g : Fraction) (n : ℕ) → f ≤ᶠ g → (f /ᶠ n) ≤ᶠ (g /ᶠ n)
 quotient_mono f g n h =
     omega (arith, ints, mul_mono (f.top *ℤ pos g.bottom) (g.top *ℤ pos f.bottom) (pos n) (omega (arith, ints)) h, mul_assoc f.top (pos g.bottom) (pos n), mul_assoc g.top (pos f.bottom) (pos n))
@@ -76,6 +80,7 @@ excess_high g f k Q h =
     let order : Q * 1 * k ≡ k * Q = omega arith in
     omega (arith, ints, mul_mono (f -ℤ pos (k * Q)) (g *ℤ pos k) (pos Q) (omega (arith, ints)) h, mul_assoc g (pos k) (pos Q), ap (λ z. z *ℤ pos Q) same, ap (λ n. g *ℤ pos n) order)
 
+-- ends that meet the excess's test enclose the excess of each forward between its ends
 pub excess_enclosed : (P : ℕ) (f g : Ends) (k0 : ℕ) (forward : Fraction) → IsProper forward → 1 ≤ k0 → EnclosesExcess P f k0 g → Encloses (2 ^ P) f forward → Encloses (2 ^ P) g ((forward -ᶠ whole (pos k0)) /ᶠ k0)
 excess_enclosed P f g k0 forward proper some tests h =
     let Q = 2 ^ P in
@@ -90,11 +95,13 @@ excess_enclosed P f g k0 forward proper some tests h =
           (excess_high g.hi f.hi k0 Q tests.high);
     }
 
+-- the excess of a forward that is at least the level is not below zero
 pub excess_nonneg : (k0 : ℕ) (forward : Fraction) → whole (pos k0) ≤ᶠ forward → pos 0 ≤ℤ ((forward -ᶠ whole (pos k0)) /ᶠ k0).top
 excess_nonneg k0 forward h = omega (arith, ints)
 
 -- ---- the strip's sum
 
+-- a proper total, not below zero, between two numbers over Q
 pub record IsSummed (Q low high : ℕ) (total : Fraction) : Type 0 where
   pub proper : IsProper total
   pub nonneg : pos 0 ≤ℤ total.top
@@ -132,6 +139,7 @@ one_more P row low high rest tests some h =
     sum_nonneg : (m n a : ℕ) (t : ℤ) → pos 0 ≤ℤ t → pos 0 ≤ℤ (pos a *ℤ pos n +ℤ t *ℤ pos m)
     sum_nonneg m n a t h = omega (arith, ints, mul_mono (pos 0) t (pos m) (omega (arith, ints)) h)
 
+-- the exact sum of rows that meet their test lies between the sums of their ends
 pub rows_summed : (P : ℕ) (rows : List CertRow) → ((row : CertRow) → In rows row → EnclosesContribution P row × (1 ≤ row.strike))
     → IsSummed (2 ^ P) (sum_by (λ (row : CertRow). row.lo) rows) (sum_by (λ (row : CertRow). row.hi) rows) (total_of (map stated_entry rows))
 rows_summed P [] each = record { proper = omega arith; nonneg = omega (arith, ints); from_low = omega (arith, ints); to_high = omega (arith, ints) }
@@ -147,6 +155,7 @@ rows_summed P (row ∷ rows) each =
     let G : ℕ → Type 0 = λ b. IsSummed (2 ^ P) (sum_by (λ (r : CertRow). r.lo) (row ∷ rows)) b total in
     subst G (sym highs) (subst F (sym lows) (one_more P row low high (total_of (map stated_entry rows)) here.0 here.1 rest))
 
+-- and so between the ends that meet the sum's test
 pub total_enclosed : (P : ℕ) (rows : List CertRow) (s : Ends) (total : Fraction) → EnclosesTotal P rows s
     → IsSummed (2 ^ P) (sum_by (λ (row : CertRow). row.lo) rows) (sum_by (λ (row : CertRow). row.hi) rows) total → Encloses (2 ^ P) s total
 total_enclosed P rows s total tests h =
@@ -176,6 +185,7 @@ variance_low w x y Q h = omega (arith, ints, difference_form x y Q, scaled_form 
 variance_high : (w x y : ℤ) (Q : ℕ) → (x -ℤ y) ≤ℤ (w *ℤ pos Q) → ((x *ℤ pos (Q * Q) -ℤ y *ℤ pos (1 * (Q * Q))) *ℤ pos Q) ≤ℤ (w *ℤ pos (1 * (Q * Q) * (Q * Q)))
 variance_high w x y Q h = omega (arith, ints, difference_form x y Q, scaled_form w Q, mul_mono (x -ℤ y) (w *ℤ pos Q) (pos (Q * Q * Q)) (omega (arith, ints)) h)
 
+-- ends that meet the variance's test enclose `2*e*s - g^2` for each exponential, excess and sum between their ends
 pub variance_enclosed : (P : ℕ) (e_ends g_ends s_ends w_ends : Ends) (e g s : Fraction) → EnclosesVariance P e_ends g_ends s_ends w_ends
     → pos 0 ≤ℤ e_ends.lo → pos 0 ≤ℤ g_ends.lo → pos 0 ≤ℤ s_ends.lo → pos 0 ≤ℤ e.top → pos 0 ≤ℤ g.top → pos 0 ≤ℤ s.top
     → Encloses (2 ^ P) e_ends e → Encloses (2 ^ P) g_ends g → Encloses (2 ^ P) s_ends s

@@ -1,3 +1,4 @@
+-- Each clause of the law is a lemma of its own.
 use Rattle.vx_accepted.proofs.Statable.{run_is_statable, figure_is_statable}
 use Rattle.vx_accepted.proofs.laws.certified_is_statable.Goals as goal
 

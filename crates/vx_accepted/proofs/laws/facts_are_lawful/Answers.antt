@@ -1,3 +1,4 @@
+-- Each clause of the law is a lemma of its own.
 use Rattle.vx_accepted.proofs.FactsLawful.{tick_has_lawful_facts, tick_facts_are_lawful, opening_facts_are_lawful}
 use Rattle.vx_accepted.proofs.laws.facts_are_lawful.Goals as goal
 

@@ -1,3 +1,4 @@
+-- Each clause of the law is a lemma of its own.
 use Rattle.vx_accepted.proofs.Picks.{near_is_picked_or_none, next_is_picked_or_none}
 use Rattle.vx_accepted.proofs.laws.terms_are_picked_or_none.Goals as goal
 

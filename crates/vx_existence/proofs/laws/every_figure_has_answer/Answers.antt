@@ -1,3 +1,4 @@
+-- Each clause of the law is a lemma of its own.
 use Rattle.vx_existence.proofs.Roots.{square_has_index_ends}
 use Rattle.vx_existence.proofs.Decisions.{ends_are_decided}
 use Rattle.vx_existence.proofs.Figures.{every_figure_has_answer as proof}

@@ -1,3 +1,4 @@
+-- Each clause of the law is a lemma of its own.
 use Rattle.vx_existence.proofs.Ticks.{every_tick_has_answer as proof, every_tick_has_lawful_answer}
 use Rattle.vx_existence.proofs.laws.every_tick_has_answer.Goals as goal
 

@@ -1,3 +1,4 @@
+-- Each part of the law is a lemma of its own.
 use Rattle.vx_laws.proofs.TickOutcomes.{tick_is_answered, refused_tick_is_not_sound, undecided_near_comes_first, undecided_next_comes_first}
 use Rattle.vx_laws.proofs.answers.tick_is_answered.Goals as goal
 

@@ -1,3 +1,4 @@
+-- Each part of the law is a lemma of its own.
 use Rattle.vx_laws.proofs.TermDayProofs.{no_near_of_none, no_next_of_none}
 use Rattle.vx_laws.proofs.days.terms_of_none.Goals as goal
 

@@ -1,3 +1,4 @@
+-- Each part of the law is a lemma of its own.
 use Rattle.vx_laws.proofs.ReadingLemmas.{prefix_is_lawful, bad_line_follows_prefix, lawful_feed_ends}
 use Rattle.vx_laws.proofs.feeds.lawful_prefixes.Goals as goal
 

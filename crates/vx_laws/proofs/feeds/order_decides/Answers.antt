@@ -1,3 +1,4 @@
+-- Each part of the law is a lemma of its own.
 use Rattle.vx_laws.proofs.OrderExamples.{header_after_end, early_quote_after_end, other_count_after_end, early_second_opening}
 use Rattle.vx_laws.proofs.feeds.order_decides.Goals as goal
 

@@ -1,3 +1,4 @@
+-- Each clause of the law is a lemma of its own.
 use Rattle.vx_replay.proofs.Completeness.{clear_tick_is_published, first_refusal_is_answered}
 use Rattle.vx_replay.proofs.laws.clear_tick_is_answered.Goals as goal
 

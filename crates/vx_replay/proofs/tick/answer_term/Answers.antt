@@ -1,3 +1,4 @@
+-- The answer for one term is that of its facts, and its strip is kept.
 use Rattle.std.proofs.Common.{◌≡◌, ◌∙◌, sym, subst, refl, get_or, arith}
 use Rattle.std.specs.Prelude.{IfOk}
 use Rattle.std.proofs.lemmas.Option.{same_Some, slice_get-get_or}

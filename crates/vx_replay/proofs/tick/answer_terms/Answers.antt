@@ -1,3 +1,4 @@
+-- The answers for both terms are joined, and what each left of its strip is kept.
 use Rattle.std.proofs.Common.{ap, refl, ℕ, ◌+◌, get_or, None, inr, arith}
 use Rattle.std.proofs.lemmas.Option.{slice_get-get_or, slice_get_within}
 use Rattle.vx_clock.specs.declared.limits.TheConstants.{INDEX_DAYS, INDEX_WINDOW}

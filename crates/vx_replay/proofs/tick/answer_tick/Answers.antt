@@ -1,3 +1,4 @@
+-- Where no next term is picked there is none among the declared expiries.
 use Rattle.std.proofs.Common.{◌≡◌, ◌∙◌, sym}
 use Rattle.std.proofs.lemmas.Option.{same_Some}
 use Rattle.vx_replay.proofs.TickSteps.{next_is_missing}

@@ -1,3 +1,4 @@
+-- Each clause of the law is a lemma of its own.
 use Rattle.vx_soq.proofs.Completeness.{clear_opening_is_published, first_opening_refusal_is_answered}
 use Rattle.vx_soq.proofs.laws.clear_opening_is_answered.Goals as goal
 

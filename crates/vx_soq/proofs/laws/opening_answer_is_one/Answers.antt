@@ -1,3 +1,4 @@
+-- The law is a lemma of OpeningAnswerIsOne.
 use Rattle.vx_soq.proofs.OpeningAnswerIsOne.{opening_answer_is_one as proof}
 use Rattle.vx_soq.proofs.laws.opening_answer_is_one.Goals as goal
 

@@ -1,3 +1,4 @@
+-- After one line more both stand for the events with its event at their end.
 use Rattle.std.proofs.Common.{List, [], ◌∷◌, ◌++◌}
 use Rattle.vx_feed.specs.declared.events.Event.{Event}
 use Rattle.vx_soq.proofs.tests.take_lines.Goals as goal

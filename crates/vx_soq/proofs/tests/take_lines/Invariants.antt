@@ -1,3 +1,4 @@
+-- The order and the book stand for the same events.
 use Rattle.std.proofs.Common.{List}
 use Rattle.vx_feed.specs.declared.events.Event.{Event}
 use Rattle.vx_feed.specs.Noted as noted

@@ -1,3 +1,4 @@
+-- With one new strip the replay stands for the events with the declared expiry at their end.
 use Rattle.std.proofs.Common.{◌∙◌, ap, refl, [], ◌∷◌, ◌++◌, None}
 use Rattle.vx_feed.specs.declared.events.Event.TheVariants.{Expiry}
 use Rattle.vx_replay.specs.StripsAfter.{Holding}

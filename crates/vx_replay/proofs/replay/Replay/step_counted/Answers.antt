@@ -1,3 +1,4 @@
+-- A quiet event answers nothing and leaves the strips.
 use Rattle.std.proofs.Common.{refl}
 use Rattle.vx_replay.proofs.NextReplay.{steps_undeclared}
 use Rattle.vx_replay.proofs.QuietEvents.{quiet_from}

@@ -1,3 +1,4 @@
+-- A tick is answered by the events before it, and after a refusal the replay stands for what it stood for.
 use Rattle.std.proofs.Common.{◌≡◌, ◌∙◌, sym, ap, subst, refl, List, length}
 use Rattle.std.proofs.lemmas.List.{with_items_is}
 use Rattle.vx_feed.specs.declared.events.Event.TheVariants.{Tick}
