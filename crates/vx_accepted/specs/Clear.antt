@@ -1,4 +1,4 @@
--- When what a tick or an opening shows is far from every boundary: the forward of a term, and the index.
+-- What a tick or an opening shows is far from every boundary: the forward of a term, and the index.
 use Rattle.std.specs.Prelude.{◌≡◌, Option, Some}
 use Rattle.vx_formula.specs.Term.{TermFacts, Term, IsTermOf}
 use Rattle.vx_formula.specs.Index.{OneTerm, TwoTerms}

@@ -24,7 +24,7 @@ use Rattle.vx_cli.specs.CheckRuns.{check_rules}
 use Rattle.vx_cli.proofs.ReplayLemmas.{nothing_sent}
 use Rattle.vx_cli.proofs.SettleLemmas.{nothing_settled, settle_without}
 use Rattle.vx_cli.specs.Runs.{ChecksFiles, ChecksOpen, IsCheckExit, IsExitOf, IsMakeExit, IsReplayExit, IsSettleExit, IsOpenAs, IsShut, OpensBoth, OpensNothing, OpensToCheck, SendsFor}
-use Rattle.vx_cli.specs.Words.{Command, check, make, replay, settle}
+use Rattle.vx_cli.specs.Words.{Command, check, drill, make, replay, settle}
 
 -- ---- exits
 

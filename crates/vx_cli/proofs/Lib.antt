@@ -15,6 +15,8 @@ mod DrillLemmas
 mod CountLemmas
 mod RangeLemmas
 mod ReplayLemmas
+mod SampleLemmas
+mod TextDeskLemmas
 -- the answers of `settle`
 mod SettleLemmas
 mod LineLemmas

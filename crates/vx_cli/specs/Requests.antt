@@ -2,8 +2,8 @@
 use Rattle.std.specs.Prelude.{ℕ, ◌<◌, ◌≤◌}
 use Rattle.vx_make.specs.declared.limits.TheConstants.{STATES, TICKS_MAX}
 use Rattle.vx_cli.specs.declared.request.Request.{Request}
-use Rattle.vx_cli.specs.declared.request.Request.TheVariants.{Check, Make, Replay, Settle}
-use Rattle.vx_cli.specs.Words.{Command, check, make, replay, settle}
+use Rattle.vx_cli.specs.declared.request.Request.TheVariants.{Check, Drill, Make, Replay, Settle}
+use Rattle.vx_cli.specs.Words.{Command, check, drill, make, replay, settle}
 
 abbrev pub asked : Request → Command
 asked (Replay feed certs) = replay feed.now certs.now
@@ -21,4 +21,5 @@ abbrev pub IsInRange : Request → Type 0
 IsInRange (Replay feed certs) = Unit {0}
 IsInRange (Check feed certs) = Unit {0}
 IsInRange (Settle feed positions certs) = Unit {0}
-IsInRange (Make number ticks) = (number < STATES) × (1 ≤ ticks) × (ticks ≤ TICKS_MAX)
+IsInRange (Make number ticks) = IsSample number ticks
+IsInRange (Drill number ticks) = IsSample number ticks

@@ -24,7 +24,7 @@ use Rattle.vx_cli.specs.CheckRuns.{check_rules}
 use Rattle.vx_cli.specs.DrillText.{Drills}
 use Rattle.vx_cli.specs.ReplayRuns.{replay_rules}
 use Rattle.vx_cli.specs.SettleRuns.{settle_rules}
-use Rattle.vx_cli.specs.Words.{Command, check, make, replay, settle}
+use Rattle.vx_cli.specs.Words.{Command, check, drill, make, replay, settle}
 
 -- ---- how a command ends
 
@@ -47,6 +47,7 @@ IsSettleExit (OpenFault Side) = Unit {0}
 IsSettleExit (OpenFault Certs) = Unit {0}
 IsSettleExit exit = IsPositionExit exit
 
+-- how `make` and `drill` end: all is sent, memory is wanting, or a write of the output fails
 abbrev pub IsMakeExit : Exit → Type 0
 IsMakeExit Done = Unit {0}
 IsMakeExit NoMemory = Unit {0}
@@ -204,7 +205,7 @@ abbrev pub SettlesFiles : Text → Text → (List ℕ → Option (List ℕ)) →
 SettlesFiles feed positions holds before after exit =
     HasSettled (option_map reading_of (holds feed)) (option_map positions_of (holds positions)) before after exit
 
--- what a command sends, by the exit of its run: `check` and `make` to the output alone
+-- what a command sends, by the exit of its run: `check`, `make` and `drill` to the output alone
 abbrev pub SendsFor : Option Command → (List ℕ → Option (List ℕ)) → (Slot → Told) → (Slot → Told) → Exit → Type 0
 SendsFor None holds before after exit = (after Out).sent ≡ (before Out).sent
 SendsFor (Some (replay feed certs)) holds before after exit = ReplaysFile feed holds before after exit

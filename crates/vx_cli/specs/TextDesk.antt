@@ -1,22 +1,27 @@
 -- What a desk tells that has a feed's text in memory.
-use Rattle.std.specs.Prelude.{ℕ, true, List, [], Some, None}
-use Rattle.vx_desk.specs.Told.{Told}
+use Rattle.std.specs.Prelude.{ℕ, Bool, true, false, List, [], Some, None}
+use Rattle.vx_desk.specs.Told.{LAST_COUNT, Told}
 use Rattle.vx_desk.specs.declared.device.Slot.{Slot}
-use Rattle.vx_desk.specs.declared.device.Slot.TheVariants.{Feed}
+use Rattle.vx_desk.specs.declared.device.Slot.TheVariants.{Feed, Certs}
 
 -- the bytes that are left in a slot: only Feed has any
 abbrev pub left_in : List ℕ → Slot → List ℕ
 left_in text Feed = text
 left_in text _ = []
 
--- every slot is open, what is sent is not told, and no call ever failed
+-- all slots are open but Certs
+abbrev pub is_open_in : Slot → Bool
+is_open_in Certs = false
+is_open_in _ = true
+
+-- what is sent is not told; no read and no write fails, and every open does, so that their count stands at its last value
 abbrev pub told_text : List ℕ → Slot → Told
 told_text text slot = record {
   left = Some (left_in text slot);
   sent = None;
-  is_open = true;
+  is_open = is_open_in slot;
   name = None;
-  failed_opens = 0;
+  failed_opens = LAST_COUNT;
   failed_reads = 0;
   failed_writes = 0;
 }

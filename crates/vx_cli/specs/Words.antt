@@ -26,8 +26,8 @@ abbrev pub three_of : List Text → Option (Text × Text × Text)
 three_of (first ∷ second ∷ third ∷ []) = Some (first, second, third)
 three_of _ = None
 
--- what a command line asks for: `replay`, `check` and `settle` with the names of their files, `make` with the number
--- and the ticks of a sample feed
+-- what a command line asks for: `replay`, `check` and `settle` with the names of their files, `make` and `drill` with
+-- the number and the ticks of a sample feed
 pub data Command : Type 0 where
   replay : Text → Text → Command
   check : Text → Text → Command

@@ -12,6 +12,9 @@ mod replay;
 mod request;
 mod settle;
 mod settle_lines;
+#[cfg(test)]
+mod tests;
+mod text_desk;
 mod tick_lines;
 mod words;
 

@@ -20,8 +20,8 @@ use vx_num::NoMemory;
 
 /// Runs the command that the words ask for, those after the program's name.
 ///
-/// Today it runs `replay FEED CERTS`, `check FEED CERTS`, `settle FEED POSITIONS CERTS` and
-/// `make NUMBER TICKS`; the words of every other command are answered with `Usage`.
+/// The commands are `replay FEED CERTS`, `check FEED CERTS`, `settle FEED POSITIONS CERTS`, `make NUMBER TICKS` and
+/// `drill NUMBER TICKS`; words of no such form are answered with `Usage`.
 pub fn run<D: Desk>(alloc: Global, words: &[String], desk: &mut D) -> Exit
     requires closed { OnlyOutIsOpen (D.told desk.old) }
     // Usage comes exactly by the words, save that want of memory may come in its place.

@@ -2,9 +2,9 @@
 
 ghost use Rattle.std.specs.Prelude.{◌≡◌, ◌<◌, ◌≤◌, true, IfOk, IfSome, map, option_and_then, option_map, string_bytes};
 ghost use Rattle.std.specs.List.{list_all};
-ghost use Rattle.vx_cli.specs.Requests.{IsInRange, asked};
-ghost use Rattle.vx_cli.specs.Words.{check_form, command_of, is_plain_word, make_form, named_form, number_of, replay_form, settle_form};
-ghost use Rattle.vx_cli.specs.Words.{three_files, three_of, ticks_of, two_files, two_of};
+ghost use Rattle.vx_cli.specs.Requests.{IsInRange, IsSample, asked};
+ghost use Rattle.vx_cli.specs.Words.{check_form, command_of, drill_form, is_plain_word, make_form, named_form};
+ghost use Rattle.vx_cli.specs.Words.{number_of, replay_form, sample_of, settle_form, three_files, three_of, ticks_of, two_files, two_of};
 
 use crate::operands::{three_operands, two_operands};
 use std::alloc::Global;
@@ -32,6 +32,11 @@ pub(crate) enum Request<'a> {
     },
     /// Send the sample feed of a number below 2^31, with so many ticks, 1 to 390.
     Make {
+        number: u32,
+        ticks: u32,
+    },
+    /// Count the answers to the ticks of such a feed.
+    Drill {
         number: u32,
         ticks: u32,
     },

@@ -5,8 +5,8 @@ ghost use Rattle.vx_cli.specs.TextDesk.{told_text};
 
 use vx_desk::{Desk, Failed, Slot};
 
-/// A feed's text as a desk: Feed gives the text, Side gives nothing, and what is written is not kept. All
-/// slots are open, and no call fails.
+/// A feed's text as a desk: Feed gives the text, Side gives nothing, and what is written is not kept. Feed,
+/// Side and Out are open from the start, no read or write fails, and nothing more can be opened.
 #[derive(Drop)]
 pub(crate) struct TextDesk<'a> {
     left: &'a [u8],
@@ -42,7 +42,7 @@ impl<'a> Desk for TextDesk<'a> {
     ghost out_is_open = { λ desk. refl };
 
     fn open(&mut self, _slot: Slot, _name: &str) -> Result<(), Failed> {
-        unreachable!()
+        Err(Failed)
     }
 
     fn read(&mut self, slot: Slot, buf: &mut [u8]) -> Result<usize, Failed> {

@@ -1,3 +1,5 @@
+//! Cuts what is read from a slot into lines.
+
 ghost use Rattle.std.specs.Prelude.{◌≡◌, ◌+◌, ◌-◌, ◌<◌, ◌≤◌, length, slice_range, take, drop, slice_index, Some, None, Err, true, false, [], ◌∷◌, ◌++◌, IsTrue, IfOk, MatchOption, OnOk, OnErr, ◌↔◌, ◌==◌};
 ghost use Rattle.std.specs.List.{list_any};
 ghost use Rattle.std.specs.Io.KnownBytes.{IsAtEnd};

@@ -7,6 +7,7 @@ mod FailureLemmas
 pub mod OneRun
 pub mod PositionLawLemmas
 pub mod PositionRunLemmas
+pub mod RunIsThere
 pub mod RunLemmas
 pub mod SendingLemmas
 pub mod TickLawLemmas

@@ -21,28 +21,16 @@ use Rattle.vx_drivers.proofs.CauseLemmas.{cause_one}
 
 -- ---- endings are told apart
 
-abbrev pub line_of : BadCause → FeedCause
-line_of (text.of_fault fault) = feed_cause.Event fault
-line_of text.too_long = feed_cause.TooLong
-line_of text.no_eol = feed_cause.NoEol
-line_of text.missing_end = feed_cause.MissingEnd
+abbrev line_of : Ending → LineCause
+line_of at_end = line.TooLong
+line_of too_long = line.TooLong
+line_of no_eol = line.NoEol
+line_of too_many = line.TooMany
 
-pub line_of-cause : (why : FeedCause) → line_of (bad_cause why) ≡ why
-line_of-cause (feed_cause.Event fault) = refl
-line_of-cause feed_cause.TooLong = refl
-line_of-cause feed_cause.NoEol = refl
-line_of-cause feed_cause.MissingEnd = refl
-
-abbrev cause_of : Ending → LineCause
-cause_of at_end = line.TooLong
-cause_of too_long = line.TooLong
-cause_of no_eol = line.NoEol
-cause_of too_many = line.TooMany
-
-cause_of-ending : (why : LineCause) → cause_of (ending_for why) ≡ why
-cause_of-ending line.TooLong = refl
-cause_of-ending line.NoEol = refl
-cause_of-ending line.TooMany = refl
+line_of-ending : (why : LineCause) → line_of (ending_for why) ≡ why
+line_of-ending line.TooLong = refl
+line_of-ending line.NoEol = refl
+line_of-ending line.TooMany = refl
 
 not_at_end : (why : LineCause) → ending_for why ≡ at_end → ⊥
 not_at_end line.TooLong h = cc

@@ -14,7 +14,8 @@ use Rattle.vx_drivers.specs.Along.{Along}
 use Rattle.vx_drivers.specs.PositionLaws.{PositionRunIsOne}
 use Rattle.vx_drivers.specs.PositionRun.{EndsPositions, NextIsBad, PositionRules, RunsUnlessBad, Settles, SettlesOpening, if_done, settled_text}
 use Rattle.vx_drivers.specs.Sending.{Text}
-use Rattle.vx_drivers.proofs.OneRun.{line_of, line_of-cause, same_head, same_lines, same_tail}
+use Rattle.vx_drivers.proofs.CauseLemmas as bad_lines
+use Rattle.vx_drivers.proofs.OneRun.{same_head, same_lines, same_tail}
 
 -- ---- rests are told apart
 
@@ -176,7 +177,7 @@ module _ {A I : Type 0} (rules : PositionRules A I)
       → (exit ≡ other) × (out ≡ out_other) × (certs ≡ certs_other)
   unless_bad_one None events positions exit other out certs out_other certs_other h k = opening_one events positions exit other out certs out_other certs_other h k
   unless_bad_one (Some bad) events positions exit other out certs out_other certs_other (why, exit_is, cause_is, out_is, certs_are) (why_other, other_is, other_cause, out_other_is, certs_other_are) =
-      let same : why ≡ why_other = sym (line_of-cause why) ∙ ap line_of (sym cause_is ∙ other_cause) ∙ line_of-cause why_other in
+      let same : why ≡ why_other = bad_lines.cause_one why why_other (sym cause_is ∙ other_cause) in
       (exit_is ∙ ap (λ (w : FeedCause). BadFeed bad.line w) same ∙ sym other_is, out_is ∙ sym out_other_is, certs_are ∙ sym certs_other_are)
 
   pub run_is_one : PositionRunIsOne rules

@@ -88,5 +88,6 @@ pub amount_bound : (gain wide_cents wide_quantity : ℤ) (cents : ℕ) (quantity
 amount_bound gain wide_cents wide_quantity cents quantity e f h k q =
     subst (λ (z : ℤ). nat_abs z ≤ 2 ^ 56) (sym (amount_is gain wide_cents wide_quantity cents quantity e f h k q)) (amount_within gain cents quantity h k q)
 
+-- a quantity in range keeps its value in 32 bits
 pub quantity_is : (quantity : ℤ) → nat_abs quantity ≤ 1000000 → to_z w32 (of_z w32 quantity) ≡ quantity
 quantity_is quantity q = to_z-of_z w32 quantity (fits_signed_from_abs w32 quantity (omega arith))
