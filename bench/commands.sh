@@ -44,7 +44,7 @@ compare() { # LABEL WORDS..: one line of the table; the word OUT stands for a fi
   done
   if cmp -s ours.out theirs.out; then said=same; else said=differs; fi
   if [ "$(cat theirs.status)" -eq 2 ]; then said="the peer answers usage"; fi
-  if [ "$(cat ours.status)" -eq 2 ]; then said="not built yet: answers usage"; fi
+  if [ "$(cat ours.status)" -eq 2 ]; then said="answers usage"; fi
   awk -v label="$label" -v ours="$(cat ours.least)" -v theirs="$(cat theirs.least)" -v said="$said" 'BEGIN {
     ratio = theirs > 0 && said !~ /usage/ ? sprintf("%.2f", ours / theirs) : "-"
     printf "%-28s %9.1f %9.1f %7s  %s\n", label, ours / 1000, theirs / 1000, ratio, said }'
