@@ -1,17 +1,12 @@
-//! Words of no command form, missing files, missing room, and devices that fail at each call in turn.
+//! Words of no command form, missing files and missing room.
 
-ghost use Rattle.std.specs.Prelude.{◌≤◌};
-
-use crate::fixtures::{FEED, LEVEL, LEVEL_OUT, desk_of, joined, run_words};
-use crate::watched::Watched;
-use std::alloc::Global;
-use std::process::Abort;
+use crate::fixtures::{FEED, LEVEL, desk_of, joined, run_words};
 use std::test::Fail;
 use vx_cli::{Exit, exit_line};
 use vx_desk::Slot;
 
 // Words that are no command form.
-const NO_FORMS: [&[&str]; 18] = [
+const NO_FORMS: [&[&str]; 23] = [
     &[],
     &["check"],
     &["check", "feed"],
@@ -30,6 +25,11 @@ const NO_FORMS: [&[&str]; 18] = [
     &["make", "1", "1.0"],
     &["make", "1", "1", "1"],
     &["make", "2147483648", "1"],
+    &["settle", "feed", "positions"],
+    &["settle", "feed", "feed", "opening"],
+    &["settle", "feed", "positions", "positions"],
+    &["drill", "1", "391"],
+    &["drill", "1"],
 ];
 
 const USAGE: &str =
@@ -113,52 +113,4 @@ fn sample_feeds_are_sent(rt: HostRuntime) -> Result<(), Fail> {
         assert!(rt; text.ends_with("V,08:30\nEND,1605\n"));
     }
     Ok(())
-}
-
-// A run of the command of the words in which the call with this number fails, where one call moves so many
-// bytes at most. It ends in the fault of that call, and sends a part of the whole text. The answer says
-// whether a call failed.
-fn expect_fault(
-    rt: &impl Abort,
-    alloc: Global,
-    words: &[&str],
-    most: usize,
-    whole: &[u8],
-    call: u64,
-) -> Result<bool, Fail>
-    requires { 1 ≤ most }
-{
-    let feed = joined(alloc, &FEED)?;
-    let desk = desk_of(alloc, 100_000, most, &[call], &feed, LEVEL.as_bytes())?;
-    let mut watched = Watched { desk, failed: None };
-    let exit = run_words(alloc, words, &mut watched)?;
-    assert_eq!(rt; exit, watched.failed.unwrap_or(Exit::Done));
-    assert!(rt; whole.starts_with(watched.desk.sent(Slot::Out)));
-    Ok(watched.failed.is_some())
-}
-
-#[test]
-fn each_failed_call_of_check_is_answered(rt: HostRuntime) -> Result<(), Fail> {
-    let words = ["check", "feed", "certificates"];
-    for call in 1..1000 {
-        if !expect_fault(&rt, rt.alloc(), &words, 16, LEVEL_OUT.as_bytes(), call)? {
-            assert!(rt; call > 30);
-            return Ok(());
-        }
-    }
-    panic!(rt; "no run without a failed call")
-}
-
-#[test]
-fn each_failed_call_of_make_is_answered(rt: HostRuntime) -> Result<(), Fail> {
-    let words = ["make", "0", "1"];
-    let mut desk = desk_of(rt.alloc(), 100_000, 4096, &[], b"", b"")?;
-    assert_eq!(rt; run_words(rt.alloc(), &words, &mut desk)?, Exit::Done);
-    for call in 1..1000 {
-        if !expect_fault(&rt, rt.alloc(), &words, 4096, desk.sent(Slot::Out), call)? {
-            assert!(rt; call > 10);
-            return Ok(());
-        }
-    }
-    panic!(rt; "no run without a failed call")
 }

@@ -87,7 +87,7 @@ pub(crate) fn joined(alloc: Global, pieces: &[&str]) -> Result<Vec<u8>, Fail> {
     Ok(text)
 }
 
-/// A desk with a file of a feed and a file of certificates.
+/// A desk with a file of a feed, a file of certificates or positions, and an empty file to write.
 pub(crate) fn desk_of(
     alloc: Global,
     room: usize,
@@ -102,6 +102,7 @@ pub(crate) fn desk_of(
     let mut desk = MemDesk::new(alloc, room, most, fails)?;
     desk.add_file("feed", feed)?;
     desk.add_file("certificates", certs)?;
+    desk.add_file("written", b"")?;
     Ok(desk)
 }
 
