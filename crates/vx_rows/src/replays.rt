@@ -302,7 +302,24 @@ const CUT: [Replayed; 6] = [
     },
 ];
 
-// Asserts what a run of `replay` sends and how it ends.
+// Asserts that `check` says yes to each of these certificates over the feed, and ends as `replay` did.
+fn expect_accepted(
+    rt: &impl Abort,
+    alloc: Global,
+    row: &Replayed,
+    feed: &[u8],
+    sent: &[u8],
+) -> Result<(), Fail> {
+    let mut desk = desk_of(alloc, 1000, 4096, &[], feed, sent)?;
+    let exit = run_words(alloc, &["check", "feed", "certificates"], &mut desk)?;
+    assert_eq!(rt; exit, row.exit, "over {}", row.out);
+    let answers = str::from_utf8(desk.sent(Slot::Out))?;
+    let accepted = answers.lines().filter(|line| line.starts_with("YES,"));
+    assert_eq!(rt; accepted.count(), row.certificates, "over {}", row.out);
+    Ok(())
+}
+
+// Asserts what a run of `replay` sends and how it ends, and that its certificates are accepted.
 fn expect_replayed(rt: &impl Abort, alloc: Global, row: &Replayed) -> Result<(), Fail> {
     let feed = joined(alloc, row.feed)?;
     let mut desk = desk_of(alloc, 100_000, 1000, &[], &feed, b"")?;
@@ -311,7 +328,7 @@ fn expect_replayed(rt: &impl Abort, alloc: Global, row: &Replayed) -> Result<(),
     assert_eq!(rt; desk.sent(Slot::Out), row.out.as_bytes(), "{}", row.out);
     let certificates = str::from_utf8(desk.sent(Slot::Certs))?;
     assert_eq!(rt; certificates.lines().count(), row.certificates);
-    Ok(())
+    expect_accepted(rt, alloc, row, &feed, desk.sent(Slot::Certs))
 }
 
 #[test]
@@ -354,4 +371,54 @@ fn certificates_come_before_their_lines(rt: HostRuntime) -> Result<(), Fail> {
     assert_eq!(rt; desk.sent(Slot::Certs), b"{\"cen".as_slice());
     assert!(rt; desk.sent(Slot::Out).is_empty());
     Ok(())
+}
+
+// What the first failing calls are answered with.
+const FIRST_CALLS: [(u64, Exit); 3] = [
+    (1, Exit::OpenFault { slot: Slot::Feed }),
+    (2, Exit::OpenFault { slot: Slot::Certs }),
+    (3, Exit::ReadFault { slot: Slot::Feed }),
+];
+
+#[test]
+fn files_are_opened_before_the_first_read(rt: HostRuntime) -> Result<(), Fail> {
+    let feed = joined(rt.alloc(), &TWO_EXPIRIES)?;
+    for (call, answer) in FIRST_CALLS.iter() {
+        let mut desk = desk_of(rt.alloc(), 1000, 10, &[*call], &feed, b"")?;
+        let exit = run_words(rt.alloc(), &["replay", "feed", "written"], &mut desk)?;
+        assert_eq!(rt; exit, *answer);
+        assert!(rt; desk.sent(Slot::Out).is_empty() && desk.sent(Slot::Certs).is_empty());
+    }
+    Ok(())
+}
+
+// The feed of two expiries with its tick three times.
+const THREE_TICKS: [&str; 9] = [
+    BOTH,
+    RATES,
+    LISTED,
+    NEXT_LISTED,
+    QUOTED,
+    NEXT_QUOTED,
+    TICK,
+    TICK,
+    "V,08:30\nEND,27\n",
+];
+
+// What stands on the output where the second write of the third line fails, and one call moves 10 bytes at most.
+const CUT_LINE: &str =
+    "FIG,08:30,30,20.66,20.657919,20.657920\nFIG,08:30,30,20.66,20.657919,20.657920\nFIG,08:30,";
+
+#[test]
+fn a_failed_write_leaves_what_was_sent(rt: HostRuntime) -> Result<(), Fail> {
+    let feed = joined(rt.alloc(), &THREE_TICKS)?;
+    for call in 1..2000 {
+        let mut desk = desk_of(rt.alloc(), 100_000, 10, &[call], &feed, b"")?;
+        let exit = run_words(rt.alloc(), &["replay", "feed", "written"], &mut desk)?;
+        if desk.sent(Slot::Out) == CUT_LINE.as_bytes() {
+            assert_eq!(rt; exit, Exit::WriteFault { slot: Slot::Out });
+            return Ok(());
+        }
+    }
+    panic!(rt; "no call of the third line fails")
 }
