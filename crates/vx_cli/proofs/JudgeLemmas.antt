@@ -6,6 +6,7 @@ use Rattle.vx_cert.specs.declared.certificate.Certificate.{Certificate}
 use Rattle.vx_cert.specs.declared.fault.CertFault.TheVariants.{Syntax, Field}
 use Rattle.vx_cert.specs.Reading.{ReadsAs}
 use Rattle.vx_claims.specs.Accepts.{IsVersion}
+use Rattle.vx_claims.specs.Means.{Means}
 use Rattle.vx_check.specs.declared.verdict.Verdict.{Verdict}
 use Rattle.vx_check.specs.declared.verdict.Verdict.TheVariants.{Yes, No}
 use Rattle.vx_check.specs.Answers.{IsAnswerOver}
@@ -20,12 +21,14 @@ version_of c line reads = read_has_version line c reads
 appended : (words old text : Text) → old ≡ [] → words ≡ old ++ text → words ≡ text
 appended words old text empty is = is ∙ ap (λ (o : Text). o ++ text) empty
 
--- a yes is the answer of a certificate that was read, which has a version
+-- a yes is the answer of a certificate that was read, which has a version; so it means what it states
 pub said_yes_is : (events : List Event) (c : Certificate) (words old : Text) (verdict : Verdict) (line : List ℕ) → ReadsOrSays line (Ok c)
-    → IsAnswerOver events c verdict → verdict ≡ Yes → old ≡ [] → words ≡ old ++ yes_words c → IsVerdict events c (said_yes words)
-said_yes_is events c words old verdict line reads answer is_yes empty is =
+    → IsAnswerOver events c verdict → (IsVersion c.v → verdict ≡ Yes → Means events c) → verdict ≡ Yes → old ≡ [] → words ≡ old ++ yes_words c
+    → IsVerdict events c (said_yes words)
+said_yes_is events c words old verdict line reads answer sound is_yes empty is =
     let met : IsAnswerOver events c Yes = subst (IsAnswerOver events c) is_yes answer in
-    (record { version = version_of c line reads; meets_all = λ test. met test }, appended words old (yes_words c) empty is)
+    let version : IsVersion c.v = version_of c line reads in
+    (record { version = version; meets_all = λ test. met test }, sound version is_yes, appended words old (yes_words c) empty is)
 
 -- and so is a no with the word of the first test that fails
 pub said_no_is : (events : List Event) (c : Certificate) (words old : Text) (verdict : Verdict) (n : ℕ)

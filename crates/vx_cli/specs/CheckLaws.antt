@@ -60,8 +60,8 @@ line_reads_one line a b h k = both_read line a b (read_as line a h) (read_as lin
 -- ---- judging
 
 pub certificate_judges_one : (events : List Event) (c : Certificate) (a b : Answer) → IsVerdict events c a → IsVerdict events c b → a ≡ b
-certificate_judges_one events c (said_yes words) (said_yes others) (accepts, p) (accepts', q) = ap (λ (w : Text). said_yes w) (p ∙ sym q)
-certificate_judges_one events c (said_yes words) (said_no word) (accepts, p) (test, first, q) = absurd (accepted_has_no_failing_test events c test accepts first)
-certificate_judges_one events c (said_no word) (said_yes words) (test, first, p) (accepts, q) = absurd (accepted_has_no_failing_test events c test accepts first)
+certificate_judges_one events c (said_yes words) (said_yes others) (accepts, means, p) (accepts', means', q) = ap (λ (w : Text). said_yes w) (p ∙ sym q)
+certificate_judges_one events c (said_yes words) (said_no word) (accepts, means, p) (test, first, q) = absurd (accepted_has_no_failing_test events c test accepts first)
+certificate_judges_one events c (said_no word) (said_yes words) (test, first, p) (accepts, means, q) = absurd (accepted_has_no_failing_test events c test accepts first)
 certificate_judges_one events c (said_no word) (said_no other) (test, first, p) (test', first', q) =
     ap (λ (w : Text). said_no w) (p ∙ ap (λ (t : Test). test_word (test_number t)) (failing_test_is_one events c test test' first first') ∙ sym q)

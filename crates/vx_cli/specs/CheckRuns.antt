@@ -12,6 +12,7 @@ use Rattle.vx_cert.specs.Reading.{ReadsAs}
 use Rattle.vx_claims.specs.declared.acceptance.Test.{Test}
 use Rattle.vx_claims.specs.Test.{test_number}
 use Rattle.vx_claims.specs.Accepts.{Accepts, Meets, FirstFailing}
+use Rattle.vx_claims.specs.Means.{Means}
 use Rattle.vx_drivers.specs.declared.exit.Exit.{Exit}
 use Rattle.vx_drivers.specs.Answers.{Answer, said_yes, said_no}
 use Rattle.vx_drivers.specs.CertificateRun.{Rules, Runs, certificates_of}
@@ -39,9 +40,10 @@ ReadsOrSays line (Ok c) = ReadsAs line (Ok c)
 ReadsOrSays line (Err word) =
     (ReadsAs line (Err Syntax) × (word ≡ codes "syntax")) ⊎ ((n : ℕ) × ReadsAs line (Err (Field n)) × (word ≡ field_word n))
 
--- the answer to a certificate over the feed's events: yes where it is accepted, else no with the first test that fails
+-- the answer to a certificate over the feed's events, those up to the line that it names: yes where it is accepted, and
+-- then it means what it states, whoever made it; else no with the first test that fails
 abbrev pub IsVerdict : List Event → Certificate → Answer → Type 0
-IsVerdict events c (said_yes words) = Accepts events c × (words ≡ yes_words c)
+IsVerdict events c (said_yes words) = Accepts events c × Means events c × (words ≡ yes_words c)
 IsVerdict events c (said_no word) = (test : Test) × FirstFailing (Meets events c) test × (word ≡ test_word (test_number test))
 
 -- what `check` makes of certificates
