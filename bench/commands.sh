@@ -1,5 +1,6 @@
 #!/usr/bin/env bash
-# Times each command beside another program that takes the same words, and prints a table of the ratios.
+# Times each command beside another program that takes the same words, and prints a table of the ratios; then the libraries
+# that take lines and certificates apart, each alone over the same bytes.
 # usage: bench/commands.sh PEER
 # PROGRAM=..   the program that is timed; without it the proved one, which is built first where it is missing
 # ROUNDS=5     runs of each, in turns; the one with the least processor time counts
@@ -59,3 +60,15 @@ compare "check" check feed certificates
 compare "check, no certificate" check feed none
 compare "settle" settle "$home/examples/feed-d.txt" positions OUT
 compare "drill" drill 0 "$TICKS"
+
+library_cost=$home/crates/library_cost/out/library_cost
+[ -x "$library_cost" ] || (cd "$home/crates/library_cost" && rt run -- csv feed.txt >/dev/null)
+alone() { # LIBRARY FILE: one line of the table, of the library alone
+  local round
+  rm -f ./*.least
+  for ((round = 0; round < ROUNDS; round++)); do least alone "$(spend alone "$library_cost" "$@")"; done
+  awk -v label="$1 alone, $2" -v took="$(cat alone.least)" 'BEGIN { printf "%-28s %9.1f\n", label, took / 1000 }'
+}
+alone csv feed
+alone csv positions
+alone serde_json certificates
