@@ -1,2 +1,3 @@
 -- Lemmas on the texts of symbols.
 pub mod SymbolTexts
+mod RootTexts

@@ -1,7 +1,8 @@
 //! Symbols of option series, read and written.
 
-ghost use Rattle.std.specs.Prelude.{◌≡◌, ◌≤◌, length, slice_index, IfOk, IfSome};
+ghost use Rattle.std.specs.Prelude.{◌≡◌, ◌≤◌, length, slice_index, bytes_eq, IfOk, IfSome};
 ghost use Rattle.vx_clock.specs.Day.{IsDayInRange};
+ghost use Rattle.vx_clock.specs.declared.terms.Root.TheVariants as root;
 ghost use Rattle.vx_symbol.specs.Symbol.{IsSymbolInRange, IsStrikeInRange, root_text, side_byte, root_of, date_of_digits, side_of, strike_of, symbol_of_text};
 ghost use Rattle.vx_symbol.specs.SymbolText.{symbol_text};
 
@@ -127,12 +128,24 @@ fn side_mark(side: Side) -> u8
     }
 }
 
+fn is_spx(text: &[u8]) -> bool
+    ensures { result ≡ bytes_eq text.now (root_text root.Spx) }
+{
+    matches!(text, [b'S', b'P', b'X', b' ', b' ', b' '])
+}
+
+fn is_spxw(text: &[u8]) -> bool
+    ensures { result ≡ bytes_eq text.now (root_text root.Spxw) }
+{
+    matches!(text, [b'S', b'P', b'X', b'W', b' ', b' '])
+}
+
 fn read_root(text: &[u8]) -> Option<Root>
     ensures { result ≡ root_of text.now }
 {
-    if text == b"SPX   ".as_slice() {
+    if is_spx(text) {
         Some(Root::Spx)
-    } else if text == b"SPXW  ".as_slice() {
+    } else if is_spxw(text) {
         Some(Root::Spxw)
     } else {
         None
