@@ -20,11 +20,15 @@ fn is_plain(byte: u8) -> bool
     byte >= 0x20 && byte <= 0x7E && byte != b'"'
 }
 
-// Whether each byte is plain.
+// Whether each byte is plain. No byte ends the loop early, so that many are tested at a time.
 fn are_plain(bytes: &[u8]) -> bool
     ensures { result ≡ list_all is_plain bytes.now }
 {
-    bytes.iter().all(|byte| is_plain(*byte))
+    let mut are_all = true;
+    for byte in bytes {
+        are_all &= is_plain(*byte);
+    }
+    are_all
 }
 
 /// Whether a line can be split here: it is not empty, and each of its bytes is one of 0x20 to 0x7E
