@@ -1,6 +1,6 @@
 //! Reading numbers from their texts, in one pass and without memory.
 
-ghost use Rattle.std.specs.Prelude.{◌≡◌, ◌+◌, ◌*◌, ◌^◌, ◌<◌, ◌≤◌, IfOk, IfSome, filter, if◌then◌else◌, is_some, min, nat_abs, nat_le, neg_ℤ, pos, take, ◌≤ℤ◌};
+ghost use Rattle.std.specs.Prelude.{◌≡◌, ◌+◌, ◌*◌, ◌^◌, ◌<◌, ◌≤◌, IfOk, IfSome, filter, length, if◌then◌else◌, is_some, min, nat_abs, nat_le, neg_ℤ, pos, take, ◌≤ℤ◌};
 ghost use Rattle.std.specs.List.{prefix_len};
 ghost use Rattle.vx_num.specs.Decimal.{decimal_of, digits_worth, is_decimal, is_decimal_rest, is_digit, magnitude_of, places_of, signed_decimal_of, wide_of};
 
@@ -12,6 +12,12 @@ const LARGE: u128 = 1 << 127;
 
 /// Below this one more digit fits.
 const ROOM: u128 = 1 << 124;
+
+/// Texts of at most so many bytes are short: behind a start below `SHORT_START`, what their digits are
+/// worth fits 64 bits.
+const SHORT_LEN: usize = 9;
+
+const SHORT_START: u64 = 1_000_000_000;
 
 /// The digits at the front of a text.
 #[derive(Drop)]
@@ -32,8 +38,31 @@ fn with_digit(value: u128, digit: u8) -> u128
     }
 }
 
-/// Reads the digits at the front of the text, which stand behind digits worth `start`.
-fn digit_run(text: &[u8], start: u128) -> DigitRun
+/// Reads the digits at the front of a short text, which stand behind few digits worth `start`.
+fn short_run(text: &[u8], start: u64) -> DigitRun
+    requires short { length text.now ≤ SHORT_LEN }
+    requires few { start < SHORT_START }
+    ensures len { result.len ≡ prefix_len is_digit text.now }
+    ensures value { result.value ≡ start * 10 ^ result.len + digits_worth (take result.len text.now) }
+{
+    let mut value = start;
+    for (len, &byte) in text.iter().enumerate() {
+        match byte {
+            b'0'..=b'9' => value = 10 * value + u64::from(byte - b'0'),
+            _ => {
+                let value = u128::from(value);
+                return DigitRun { value, len };
+            }
+        }
+    }
+    DigitRun {
+        value: u128::from(value),
+        len: text.len(),
+    }
+}
+
+/// Reads the digits at the front of any text, which stand behind digits worth `start`.
+fn long_run(text: &[u8], start: u128) -> DigitRun
     ensures len { result.len ≡ prefix_len is_digit text.now }
     ensures value { min result.value LARGE ≡ min (start * 10 ^ result.len + digits_worth (take result.len text.now)) LARGE }
 {
@@ -48,6 +77,17 @@ fn digit_run(text: &[u8], start: u128) -> DigitRun
         value,
         len: text.len(),
     }
+}
+
+/// Reads the digits at the front of the text, which stand behind digits worth `start`.
+fn digit_run(text: &[u8], start: u128) -> DigitRun
+    ensures len { result.len ≡ prefix_len is_digit text.now }
+    ensures value { min result.value LARGE ≡ min (start * 10 ^ result.len + digits_worth (take result.len text.now)) LARGE }
+{
+    if text.len() <= SHORT_LEN && start < SHORT_START as u128 {
+        return short_run(text, start as u64);
+    }
+    long_run(text, start)
 }
 
 /// A decimal without its dot.
@@ -108,7 +148,7 @@ fn scaled(digits: u128, zeros: u32, max: u64) -> Option<u64>
     if digits > limit {
         return None;
     }
-    let value = digits * 10u128.pow(zeros);
+    let value = u128::from(digits as u64) * u128::from(10u64.pow(zeros));
     if value > limit {
         None
     } else {

@@ -2,7 +2,7 @@
 use Rattle.std.proofs.Common.{◌≡◌, ◌+◌, ◌*◌, ◌^◌, ◌<◌, min, take, ℕ, true, get_or}
 use Rattle.vx_num.specs.Decimal.{digits_worth, is_digit}
 use Rattle.vx_num.specs.declared.decimal.TheConstants.{LARGE}
-use Rattle.vx_num.proofs.decimal.digit_run.Given as goal
+use Rattle.vx_num.proofs.decimal.long_run.Given as goal
 
 abbrev pub invariant-loop-len : goal.invariant-loop-len
 invariant-loop-len l = record {

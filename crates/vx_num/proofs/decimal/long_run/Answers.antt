@@ -6,7 +6,7 @@ use Rattle.std.proofs.lemmas.Grind.{pow_more}
 use Rattle.vx_num.specs.declared.decimal.TheConstants.{LARGE}
 use Rattle.vx_num.specs.Decimal.{digits_worth, is_digit}
 use Rattle.vx_num.proofs.Texts.{digits_worth_more, capped_more}
-use Rattle.vx_num.proofs.decimal.digit_run.Goals as goal
+use Rattle.vx_num.proofs.decimal.long_run.Goals as goal
 
 pub returns-in_default-clause-len : goal.returns-in_default-clause-len
 returns-in_default-clause-len c = sym (prefix_len_is is_digit c.args.text.now c.loop-len.len 0 (omega arith) c.loop-len.invariant.digits (λ h. grind (arith, nat_tests)))
