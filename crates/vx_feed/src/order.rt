@@ -120,18 +120,6 @@ fn add_strike(expiries: &mut [Declared], expiry: Expiry)
     }
 }
 
-// The first fault whose cause holds, of causes with their faults.
-fn first_fault(causes: &[(bool, FeedFault)]) -> Option<FeedFault>
-    ensures { result ≡ order.first_fault causes.now }
-{
-    for (holds, fault) in causes {
-        if *holds {
-            return Some(*fault);
-        }
-    }
-    None
-}
-
 fn is_header(event: &Event) -> bool
     ensures { result ≡ order.is_header event.now }
 {
@@ -303,19 +291,29 @@ impl Order {
     pub(crate) fn fault(&self, event: &Event) -> Option<FeedFault>
         ensures { (events : List Event) → StandsFor self.now events → result ≡ order.order_fault events event.now }
     {
-        let causes = [
-            (self.is_misplaced(event), FeedFault::NotFirst),
-            (self.ended, FeedFault::AfterEnd),
-            (self.is_time_back(event), FeedFault::TimeBack),
-            (self.is_duplicate_expiry(event), FeedFault::DuplicateExpiry),
-            (self.is_duplicate_series(event), FeedFault::DuplicateSeries),
-            (self.is_undeclared(event), FeedFault::UndeclaredExpiry),
-            (self.is_too_many(event), FeedFault::TooMany),
-            (self.is_other_count(event), FeedFault::EndCount),
-            (self.is_out_of_days(event), FeedFault::TimeRange),
-            (self.is_second_opening(event), FeedFault::SecondOpening),
-        ];
-        first_fault(&causes)
+        if self.is_misplaced(event) {
+            Some(FeedFault::NotFirst)
+        } else if self.ended {
+            Some(FeedFault::AfterEnd)
+        } else if self.is_time_back(event) {
+            Some(FeedFault::TimeBack)
+        } else if self.is_duplicate_expiry(event) {
+            Some(FeedFault::DuplicateExpiry)
+        } else if self.is_duplicate_series(event) {
+            Some(FeedFault::DuplicateSeries)
+        } else if self.is_undeclared(event) {
+            Some(FeedFault::UndeclaredExpiry)
+        } else if self.is_too_many(event) {
+            Some(FeedFault::TooMany)
+        } else if self.is_other_count(event) {
+            Some(FeedFault::EndCount)
+        } else if self.is_out_of_days(event) {
+            Some(FeedFault::TimeRange)
+        } else if self.is_second_opening(event) {
+            Some(FeedFault::SecondOpening)
+        } else {
+            None
+        }
     }
 
     // Takes up the series that is listed, and its strike where that is new.
