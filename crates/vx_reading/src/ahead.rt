@@ -12,7 +12,7 @@ use vx_fields::{FieldTable, LineBlock};
 use vx_num::NoMemory;
 
 /// The most lines that are split together, so that what it costs to begin a split is shared by many.
-const BLOCK_LINES: usize = 512;
+const BLOCK_LINES: usize = 2048;
 
 /// What comes after the lines that were split.
 #[derive(Clone, Copy)]

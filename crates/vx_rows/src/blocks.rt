@@ -8,16 +8,12 @@ use vx_cli::{Exit, FeedCause};
 use vx_desk::Slot;
 use vx_feed::FeedFault;
 
-// The line of a tick and the bad line after it, about the ends of the first two blocks of 512 lines.
-const PLACES: [(u64, u64); 8] = [
-    (510, 511),
-    (511, 512),
-    (512, 513),
-    (513, 514),
-    (1022, 1023),
-    (1023, 1024),
-    (1024, 1025),
-    (1025, 1026),
+// The line of a tick and the bad line after it, about the end of the first block of 2,048 lines.
+const PLACES: [(u64, u64); 4] = [
+    (2046, 2047),
+    (2047, 2048),
+    (2048, 2049),
+    (2049, 2050),
 ];
 
 // The pieces of a bad line, and what is wrong with it: some of it is found while lines are read ahead, some
@@ -63,12 +59,12 @@ const SETTLE: Case = Case {
     out: "",
 };
 
-// The sample feed up to its quotes, the last of these again up to the line of the event, the event, and what comes
-// after it.
+// The sample feed up to its quotes, its rate again up to the line of the event, so that one read gives more lines than
+// a block has, the event, and what comes after it.
 fn feed_of(alloc: Global, line: u64, event: &str, after: &[&str]) -> Result<Vec<u8>, Fail> {
     let mut feed = joined(alloc, &[DECLARED, LISTED, QUOTED])?;
     for _ in 14..line {
-        feed.extend_from_slice(b"Q,08:30,SPX   141017C02100000,10.00,10.00\n")?;
+        feed.extend_from_slice(b"R,SPX,2014-10-17,0\n")?;
     }
     feed.extend_from_slice(event.as_bytes())?;
     feed.extend_from_slice(&joined(alloc, after)?)?;
