@@ -1,53 +1,53 @@
--- An event that is no tick and declares no expiry.
-use Rattle.std.proofs.Common.{◌≡◌, sym, subst, refl, ℕ, ℤ, ◌⊎◌, inl, inr, List, None}
-use Rattle.std.specs.Prelude.{Ok}
-use Rattle.vx_clock.specs.declared.days.DayNo.{DayNo}
+-- An event that is no tick, and one that declares no expiry either.
+use Rattle.std.proofs.Common.{◌≡◌, ◌≢◌, refl, ℕ, List, None}
+use Rattle.std.specs.Prelude.{Ok, Err}
+use Rattle.vx_num.specs.declared.fault.NoMemory.{NoMemory}
 use Rattle.vx_clock.specs.declared.terms.Expiry.{Expiry}
-use Rattle.vx_symbol.specs.declared.symbols.Symbol.{Symbol}
 use Rattle.vx_feed.specs.declared.events.Event.{Event}
 use Rattle.vx_feed.specs.declared.events.Event.TheVariants as event
 use Rattle.vx_feed.specs.Listed.{declared_expiry}
 use Rattle.vx_replay.specs.Stepped.{IsStepAnswer}
 use Rattle.vx_replay.specs.StripsAfter.{Holding, AreKeptAfter}
 
--- it is not answered, and leaves every strip as it is
+abbrev pub IsNoTick : Event → Type 0
+IsNoTick e = (time : ℕ) → e ≢ event.Tick time
+
+abbrev pub IsNoExpiry : Event → Type 0
+IsNoExpiry e = (x : Expiry) → e ≢ event.Expiry x
+
+-- ---- no tick
+
+-- it is not answered, and where memory was refused every strip is left as it was
+pub record IsUnanswered (e : Event) : Type 0 where
+  pub answers_none : (events : List Event) → IsStepAnswer events e None
+  pub leaves_strips : (events : List Event) (strips : List Holding) (count : ℕ) (memory : NoMemory)
+      → AreKeptAfter events e strips strips count count (Err memory)
+
+pub unanswered : (e : Event) → IsNoTick e → IsUnanswered e
+unanswered (event.Header day) h = record { answers_none = λ events. refl; leaves_strips = λ events strips count memory. record { same = refl; none = refl } }
+unanswered (event.Expiry x) h = record { answers_none = λ events. refl; leaves_strips = λ events strips count memory. record { same = refl; none = refl } }
+unanswered (event.Rate x rate) h = record { answers_none = λ events. refl; leaves_strips = λ events strips count memory. record { same = refl; none = refl } }
+unanswered (event.Series s) h = record { answers_none = λ events. refl; leaves_strips = λ events strips count memory. record { same = refl; none = refl } }
+unanswered (event.Quote time s bid ask) h = record { answers_none = λ events. refl; leaves_strips = λ events strips count memory. record { same = refl; none = refl } }
+unanswered (event.Trade time s price) h = record { answers_none = λ events. refl; leaves_strips = λ events strips count memory. record { same = refl; none = refl } }
+unanswered (event.Tick time) h = absurd (h time refl)
+unanswered (event.Opening time) h = record { answers_none = λ events. refl; leaves_strips = λ events strips count memory. record { same = refl; none = refl } }
+unanswered (event.End count) h = record { answers_none = λ events. refl; leaves_strips = λ events strips count memory. record { same = refl; none = refl } }
+
+-- ---- and no expiry
+
+-- it declares none, and leaves every strip as it is
 pub record IsQuiet (e : Event) : Type 0 where
   pub declares_none : declared_expiry e ≡ None
-  pub answers_none : (events : List Event) → IsStepAnswer events e None
   pub leaves_strips : (events : List Event) (strips : List Holding) (count : ℕ) → AreKeptAfter events e strips strips count count (Ok None)
 
-abbrev IsOther : Event → Type 0
-IsOther (event.Tick time) = ⊥
-IsOther (event.Expiry x) = ⊥
-IsOther _ = Unit {0}
-
-quiet : (e : Event) → IsOther e → IsQuiet e
-quiet (event.Header day) h = record { declares_none = refl; answers_none = λ events. refl; leaves_strips = λ events strips count. record { same = refl; none = refl } }
-quiet (event.Expiry x) h = absurd h
-quiet (event.Rate x rate) h = record { declares_none = refl; answers_none = λ events. refl; leaves_strips = λ events strips count. record { same = refl; none = refl } }
-quiet (event.Series s) h = record { declares_none = refl; answers_none = λ events. refl; leaves_strips = λ events strips count. record { same = refl; none = refl } }
-quiet (event.Quote time s bid ask) h = record { declares_none = refl; answers_none = λ events. refl; leaves_strips = λ events strips count. record { same = refl; none = refl } }
-quiet (event.Trade time s price) h = record { declares_none = refl; answers_none = λ events. refl; leaves_strips = λ events strips count. record { same = refl; none = refl } }
-quiet (event.Tick time) h = absurd h
-quiet (event.Opening time) h = record { declares_none = refl; answers_none = λ events. refl; leaves_strips = λ events strips count. record { same = refl; none = refl } }
-quiet (event.End count) h = record { declares_none = refl; answers_none = λ events. refl; leaves_strips = λ events strips count. record { same = refl; none = refl } }
-
--- the other kinds of events
-abbrev pub IsOfOtherKind : Event → Type 0
-IsOfOtherKind e =
-    ((day : DayNo) × (e ≡ event.Header day))
-    ⊎ (((x : Expiry) × (rate : ℤ) × (e ≡ event.Rate x rate))
-    ⊎ (((s : Symbol) × (e ≡ event.Series s))
-    ⊎ (((time : ℕ) × (s : Symbol) × (bid : ℕ) × (ask : ℕ) × (e ≡ event.Quote time s bid ask))
-    ⊎ (((time : ℕ) × (s : Symbol) × (price : ℕ) × (e ≡ event.Trade time s price))
-    ⊎ (((time : ℕ) × (e ≡ event.Opening time)) ⊎ ((count : ℕ) × (e ≡ event.End count)))))))
-
--- each event that declares no expiry and is no tick is quiet
-pub quiet_from : (e : Event) → IsOfOtherKind e → IsQuiet e
-quiet_from e (inl (day, is)) = quiet e (subst IsOther (sym is) tt)
-quiet_from e (inr (inl (x, rate, is))) = quiet e (subst IsOther (sym is) tt)
-quiet_from e (inr (inr (inl (s, is)))) = quiet e (subst IsOther (sym is) tt)
-quiet_from e (inr (inr (inr (inl (time, s, bid, ask, is))))) = quiet e (subst IsOther (sym is) tt)
-quiet_from e (inr (inr (inr (inr (inl (time, s, price, is)))))) = quiet e (subst IsOther (sym is) tt)
-quiet_from e (inr (inr (inr (inr (inr (inl (time, is))))))) = quiet e (subst IsOther (sym is) tt)
-quiet_from e (inr (inr (inr (inr (inr (inr (count, is))))))) = quiet e (subst IsOther (sym is) tt)
+pub quiet : (e : Event) → IsNoTick e → IsNoExpiry e → IsQuiet e
+quiet (event.Header day) h k = record { declares_none = refl; leaves_strips = λ events strips count. record { same = refl; none = refl } }
+quiet (event.Expiry x) h k = absurd (k x refl)
+quiet (event.Rate x rate) h k = record { declares_none = refl; leaves_strips = λ events strips count. record { same = refl; none = refl } }
+quiet (event.Series s) h k = record { declares_none = refl; leaves_strips = λ events strips count. record { same = refl; none = refl } }
+quiet (event.Quote time s bid ask) h k = record { declares_none = refl; leaves_strips = λ events strips count. record { same = refl; none = refl } }
+quiet (event.Trade time s price) h k = record { declares_none = refl; leaves_strips = λ events strips count. record { same = refl; none = refl } }
+quiet (event.Tick time) h k = absurd (h time refl)
+quiet (event.Opening time) h k = record { declares_none = refl; leaves_strips = λ events strips count. record { same = refl; none = refl } }
+quiet (event.End count) h k = record { declares_none = refl; leaves_strips = λ events strips count. record { same = refl; none = refl } }

@@ -1,6 +1,6 @@
 //! The replay of a day's feed, one event after another.
 
-ghost use Rattle.std.specs.Prelude.{◌≡◌, ℕ, ◌<◌, ◌≤◌, ◌^◌, List, [], ◌∷◌, ◌++◌, Some, None, IfOk, OnOk, OnErr, slice_get};
+ghost use Rattle.std.specs.Prelude.{◌≡◌, ◌≢◌, ℕ, ◌<◌, ◌≤◌, ◌^◌, List, [], ◌∷◌, ◌++◌, Some, None, Ok, IfOk, OnOk, OnErr, slice_get};
 ghost use Rattle.vx_feed.specs.declared.events.Event.{Event};
 ghost use Rattle.vx_replay.specs.StandsFor.{HasPlace, MayStep, OfEvents, StandsFor, StandsStill, Steps as StepsTo};
 ghost use Rattle.vx_replay.specs.Stepped.{IsAnswerNext, IsStepAnswer};
@@ -119,19 +119,39 @@ impl Replay {
                 let answer = self.tick(time, steps)?;
                 Ok(Some(answer))
             }
-            Event::Expiry(expiry) => {
-                self.declare(expiry)?;
+            _ => {
+                self.take_up(e)?;
                 Ok(None)
             }
-            Event::Header { .. }
-            | Event::Rate { .. }
-            | Event::Series(_)
-            | Event::Quote { .. }
-            | Event::Trade { .. }
-            | Event::Opening { .. }
-            | Event::End { .. } => {
+        }
+    }
+
+    /// Takes up an event that is lawful next and no tick, so that there is nothing to answer.
+    ///
+    /// The replay then stands for the events with this one at their end. A declared expiry has a new strip,
+    /// all other strips hold what they held, and no row is divided.
+    ///
+    /// # Errors
+    ///
+    /// `NoMemory`: the replay stands for the events that it stood for before, its strips hold what they held,
+    /// and it can go on.
+    pub fn take_up(&mut self, e: &Event) -> Result<(), NoMemory>
+        requires may { MayStep self.old e.now }
+        requires no_tick { (time : ℕ) → e.now ≢ Event.Tick time }
+        ensures stands { OnOk result (StepsTo self.old e.now self.new) }
+        ensures refused { OnErr result (StandsStill self.old self.new) }
+        ensures kept { OnOk result ((events : List Event) (count : ℕ)
+            → AreKeptAfter events e.now self.old.kept.items self.new.kept.items count count (Ok None)) }
+        ensures same { OnErr result (self.new.kept.items ≡ self.old.kept.items) }
+    {
+        match *e {
+            Event::Expiry(expiry) => {
+                self.declare(expiry)?;
+                Ok(())
+            }
+            _ => {
                 self.book.apply(e)?;
-                Ok(None)
+                Ok(())
             }
         }
     }

@@ -1,17 +1,13 @@
--- A quiet event answers nothing and leaves the strips.
-use Rattle.std.proofs.Common.{refl}
-use Rattle.vx_replay.proofs.NextReplay.{steps_undeclared}
-use Rattle.vx_replay.proofs.QuietEvents.{quiet_from}
+-- An event that is no tick is not answered.
+use Rattle.vx_replay.proofs.QuietEvents.{unanswered}
 use Rattle.vx_replay.proofs.replay.Replay.step_counted.Goals as goal
 
-pub returns-in_ok-apply-in-Header : goal.returns-in_ok-apply-in-Header
-returns-in_ok-apply-in-Header g c =
-    let old = c.args.self.now in
+pub returns-in_ok-take_up-in_default : goal.returns-in_ok-take_up-in_default
+returns-in_ok-take_up-in_default g c =
     let e = c.args.e.now in
-    let quiet = quiet_from e c.in-Header.is in
     record {
-      stands = steps_undeclared old (record old { book = c.apply.new.self }) e c.in_ok-apply-in-Header.ensures.applied quiet.declares_none refl;
+      stands = c.in_ok-take_up-in_default.ensures.stands;
       refused = tt;
-      answer = λ events h next. quiet.answers_none events;
-      kept = λ events h next. quiet.leaves_strips events old.kept.items c.args.steps.now;
+      answer = λ events h next. (unanswered e c.in_default.not-Tick).answers_none events;
+      kept = λ events h next. c.in_ok-take_up-in_default.ensures.kept events c.args.steps.now;
     }
