@@ -1,5 +1,5 @@
 -- What the last of some events is answered, from what the replay says of it.
-use Rattle.std.proofs.Common.{◌≡◌, ◌∙◌, ◌⊎◌, inl, inr, ℕ, ◌-◌, ◌+◌, List, [], ◌∷◌, ◌++◌, length, Option, Some, None, refl, sym, ap, subst, arith}
+use Rattle.std.proofs.Common.{◌≡◌, ◌≢◌, ◌∙◌, ◌⊎◌, inl, inr, ℕ, ◌-◌, ◌+◌, List, [], ◌∷◌, ◌++◌, length, Option, Some, None, refl, sym, ap, subst, arith}
 use Rattle.std.specs.List.{slice_get}
 use Rattle.std.proofs.lemmas.List.{length-append}
 use Rattle.vx_clock.specs.declared.limits.TheConstants.{INDEX_DAYS, INDEX_WINDOW}
@@ -28,6 +28,10 @@ at_last events e =
 abbrev minute_at : Option Event → Option ℕ
 minute_at (Some e) = minute_of_tick e
 minute_at None = None
+
+-- an event without a tick's minute is no tick
+pub is_no_tick : (e : Event) → minute_of_tick e ≡ None → (time : ℕ) → e ≢ event.Tick time
+is_no_tick e none time is = let neither : None ≡ Some time = sym none ∙ ap minute_of_tick is in (let no : ⊥ = cc in no)
 
 -- an event that is no tick is given nothing
 pub no_tick : (events : List Event) (e : Event) → minute_of_tick e ≡ None → GivesAnswer (events ++ e ∷ []) None

@@ -184,6 +184,11 @@ pub counts_more : (events : List Event) (e : Event) (answer : Option TickAnswer)
     → CountsMore old new answer → HasCounted events old → HasCounted (events ++ e ∷ []) new
 counts_more events e answer old new is more h = counts_either events e answer old new (either events e answer is) more h
 
+-- and so is one that is no tick
+pub counts_quiet : (events : List Event) (e : Event) (old new : AnswerCounts) → minute_of_tick e ≡ None → CountsMore old new None
+    → HasCounted events old → HasCounted (events ++ e ∷ []) new
+counts_quiet events e old new none more h = counts_either events e None old new (inr (none, refl)) more h
+
 -- before the first line nothing is counted
 pub counts_none : HasCounted [] no_counts
 counts_none = record {

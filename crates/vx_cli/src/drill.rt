@@ -10,6 +10,7 @@ ghost use Rattle.vx_cli.specs.DrillText.{Drills};
 ghost use Rattle.vx_cli.specs.OutputLines.{count_text};
 ghost use Rattle.vx_cli.specs.Runs.{DrillsTo, IsMakeExit};
 
+use crate::replay::tick_minute;
 use crate::text_desk::TextDesk;
 use std::alloc::Global;
 use vx_desk::{Desk, Slot, send};
@@ -56,6 +57,17 @@ impl AnswerCounts {
         }
     }
 
+    /// Counts one line more that is no tick.
+    fn count_line(&mut self)
+        requires room { self.old.lines < LINES_MAX }
+        ensures lines { self.new.lines ≡ self.old.lines + 1 }
+        ensures published { self.new.published ≡ self.old.published }
+        ensures undecided { self.new.undecided ≡ self.old.undecided }
+        ensures refused { self.new.refused ≡ self.old.refused }
+    {
+        self.lines += 1;
+    }
+
     /// Counts one line more, with its answer where it is a tick.
     fn count(&mut self, answer: &Option<TickAnswer>)
         requires room { self.old.lines < LINES_MAX }
@@ -76,15 +88,51 @@ impl AnswerCounts {
     }
 }
 
+impl CountedReplay {
+    ghost use Rattle.std.specs.Prelude.{◌≡◌, ◌++◌, List, [], ◌∷◌, None, OnErr, OnOk};
+    ghost use Rattle.vx_feed.specs.declared.events.Event.{Event};
+    ghost use Rattle.vx_feed.specs.Order.{IsLawfulNext};
+    ghost use Rattle.vx_cli.specs.DrillRuns.{HasCountedAlong};
+    ghost use Rattle.vx_cli.specs.ReplayRuns.{minute_of_tick};
+
+    /// Takes up an event, and counts what it is answered.
+    fn step(&mut self, event: Event) -> Result<(), NoMemory>
+        requires lawful { (events : List Event) × HasCountedAlong self.old.replay self.old.counts events × IsLawfulNext events event }
+        ensures taken { (events : List Event) → HasCountedAlong self.old.replay self.old.counts events → IsLawfulNext events event
+            → OnOk result (HasCountedAlong self.new.replay self.new.counts (events ++ event ∷ [])) }
+        ensures kept { (events : List Event) → HasCountedAlong self.old.replay self.old.counts events
+            → OnErr result (HasCountedAlong self.new.replay self.new.counts events) }
+    {
+        let answer = self.replay.step(&event)?;
+        self.counts.count(&answer);
+        Ok(())
+    }
+
+    /// Takes up an event that is no tick. An answer is large, and none is made here.
+    fn take_up(&mut self, event: Event) -> Result<(), NoMemory>
+        requires lawful { (events : List Event) × HasCountedAlong self.old.replay self.old.counts events × IsLawfulNext events event }
+        requires no_tick { minute_of_tick event ≡ None }
+        ensures taken { (events : List Event) → HasCountedAlong self.old.replay self.old.counts events → IsLawfulNext events event
+            → OnOk result (HasCountedAlong self.new.replay self.new.counts (events ++ event ∷ [])) }
+        ensures kept { (events : List Event) → HasCountedAlong self.old.replay self.old.counts events
+            → OnErr result (HasCountedAlong self.new.replay self.new.counts events) }
+    {
+        self.replay.take_up(&event)?;
+        self.counts.count_line();
+        Ok(())
+    }
+}
+
 impl TakesEvents for CountedReplay {
     ghost use Rattle.vx_cli.specs.DrillRuns.{HasCountedAlong};
 
     ghost StandsFor = { λ taker events. HasCountedAlong taker.replay taker.counts events };
 
     fn take(&mut self, event: Event) -> Result<(), NoMemory> {
-        let answer = self.replay.step(&event)?;
-        self.counts.count(&answer);
-        Ok(())
+        match tick_minute(event) {
+            Some(_time) => self.step(event),
+            None => self.take_up(event),
+        }
     }
 }
 

@@ -35,7 +35,7 @@ struct TickAnswers {
 }
 
 /// The minute of an event that is a tick.
-fn tick_minute(event: Event) -> Option<u16>
+pub(crate) fn tick_minute(event: Event) -> Option<u16>
     ensures { result ≡ minute_of_tick event }
 {
     match event {
@@ -62,15 +62,61 @@ impl TimedAnswer {
     }
 }
 
+impl TickAnswers {
+    ghost use Rattle.std.specs.Prelude.{◌≡◌, ◌++◌, List, [], ◌∷◌, None, OnErr, OnOk};
+    ghost use Rattle.vx_feed.specs.declared.events.Event.{Event};
+    ghost use Rattle.vx_feed.specs.Order.{IsLawfulNext};
+    ghost use Rattle.vx_cli.specs.LastAnswer.{HasAnsweredLast};
+
+    /// Takes up an event, and keeps what it is answered.
+    fn step(&mut self, event: Event) -> Result<(), NoMemory>
+        requires lawful { (events : List Event) × HasAnsweredLast self.old.replay self.old.last events × IsLawfulNext events event }
+        ensures taken { (events : List Event) → HasAnsweredLast self.old.replay self.old.last events → IsLawfulNext events event
+            → OnOk result (HasAnsweredLast self.new.replay self.new.last (events ++ event ∷ [])) }
+        ensures kept { (events : List Event) → HasAnsweredLast self.old.replay self.old.last events
+            → OnErr result (HasAnsweredLast self.new.replay self.new.last events) }
+    {
+        let answer = self.replay.step(&event)?;
+        self.last = TimedAnswer::of_event(event, answer);
+        Ok(())
+    }
+
+    /// Lets go of the last answer.
+    fn let_go(&mut self)
+        ensures replay { self.new.replay ≡ self.old.replay }
+        ensures none { self.new.last ≡ None }
+    {
+        self.last = None;
+    }
+
+    /// Takes up an event that is no tick. An answer is large, and none is made or moved here.
+    fn take_up(&mut self, event: Event) -> Result<(), NoMemory>
+        requires lawful { (events : List Event) × HasAnsweredLast self.old.replay self.old.last events × IsLawfulNext events event }
+        requires no_tick { minute_of_tick event ≡ None }
+        ensures taken { (events : List Event) → HasAnsweredLast self.old.replay self.old.last events → IsLawfulNext events event
+            → OnOk result (HasAnsweredLast self.new.replay self.new.last (events ++ event ∷ [])) }
+        ensures kept { (events : List Event) → HasAnsweredLast self.old.replay self.old.last events
+            → OnErr result (HasAnsweredLast self.new.replay self.new.last events) }
+    {
+        self.replay.take_up(&event)?;
+        if self.last.is_none() {
+            return Ok(());
+        }
+        self.let_go();
+        Ok(())
+    }
+}
+
 impl TakesEvents for TickAnswers {
     ghost use Rattle.vx_cli.specs.LastAnswer.{HasAnsweredLast};
 
     ghost StandsFor = { λ taker events. HasAnsweredLast taker.replay taker.last events };
 
     fn take(&mut self, event: Event) -> Result<(), NoMemory> {
-        let answer = self.replay.step(&event)?;
-        self.last = TimedAnswer::of_event(event, answer);
-        Ok(())
+        match tick_minute(event) {
+            Some(_time) => self.step(event),
+            None => self.take_up(event),
+        }
     }
 }
 

@@ -1,5 +1,5 @@
 use Rattle.vx_cli.proofs.DrillLemmas.{counted_few, counts_more, room_for_line}
-use Rattle.vx_cli.proofs.drill.CountedReplayTakesEvents.take.Goals as goal
+use Rattle.vx_cli.proofs.drill.CountedReplay.step.Goals as goal
 
 pub count-requires-clause-room : goal.count-requires-clause-room
 count-requires-clause-room c =
