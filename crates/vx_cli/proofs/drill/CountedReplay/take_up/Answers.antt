@@ -9,7 +9,8 @@ take_up-requires-clause-no_tick c = is_no_tick c.args.event c.requires.no_tick
 
 pub count_line-requires : goal.count_line-requires
 count_line-requires c =
-    let some = c.requires.lawful in room_for_line some.0 c.args.event c.args.self.now.counts some.2 some.1.counted
+    let some = c.requires.lawful in
+    record { room = room_for_line some.0 c.args.event c.args.self.now.counts some.2 some.1.counted }
 
 pub returns-clause-taken : goal.returns-clause-taken
 returns-clause-taken c = λ events h next. let old = c.args.self.now.counts in record {
