@@ -21,3 +21,8 @@ mod TextDeskLemmas
 mod SettleLemmas
 mod LineLemmas
 mod SheetLemmas
+-- what `replay` and `settle` wrote is accepted
+mod PublishedMeans
+mod ReplayAccepted
+mod UpToOpening
+mod SettleAccepted

@@ -27,6 +27,7 @@ use Rattle.vx_drivers.specs.PositionExits.{IsLineFault}
 use Rattle.vx_drivers.specs.PositionSteps.{AddsUnless, OpensSheet}
 use Rattle.vx_drivers.specs.Sending.{Text}
 use Rattle.vx_cli.specs.declared.settle.Settlement.{Settlement}
+use Rattle.vx_cli.specs.ReadBack.{OpeningCertificateIsRead}
 use Rattle.vx_cli.specs.SettleRuns.{AnsweredOpening, LineComesTo, SettlesTo, settle_rules}
 use Rattle.vx_cli.specs.SettleSheet.{HasSettledOn}
 use Rattle.vx_cli.specs.SettleText.{Settled, amounts_of, figure_of, opening_certificate_text, opening_clock, opening_text, position_text}
@@ -168,12 +169,12 @@ none_yet (Some cents) = refl
 -- the opening is answered, and no position is settled yet
 pub sheet_opened : (events : List Event) (answer : OpeningAnswer) (time : Option ℕ) (certificate line : Text) (sheet : Settlement)
     → time ≡ opening_time events → IsOpeningAnswer events answer → IsLawfulOpening events answer → CanBeWritten answer
-    → certificate ≡ opening_certificate_text answer → line ≡ opening_text (opening_clock time) answer
+    → OpeningCertificateIsRead answer → certificate ≡ opening_certificate_text answer → line ≡ opening_text (opening_clock time) answer
     → sheet.figure ≡ figure_of answer → sheet.total ≡ pos 0
     → OpensSheet settle_rules HasSettledOn events certificate line sheet
-sheet_opened events answer time certificate line sheet time_is is_answer lawful written certificate_is line_is figure_is zero = record {
+sheet_opened events answer time certificate line sheet time_is is_answer lawful written read certificate_is line_is figure_is zero = record {
   answer = record { time = time; answer = answer };
-  is_opening = record { time_is = time_is; is_answer = is_answer; is_lawful = lawful };
+  is_opening = record { time_is = time_is; is_answer = is_answer; is_lawful = lawful; is_read = read };
   certificate_is = certificate_is;
   line_is = line_is;
   stands = record {

@@ -1,4 +1,5 @@
 -- The words of the commands, what each writes, and the laws of its text.
+pub mod Accepted
 pub mod CheckLaws
 pub mod CheckRuns
 pub mod ExitText
@@ -8,6 +9,7 @@ pub mod Laws
 pub mod Operands
 pub mod OutputLines
 pub mod LastAnswer
+pub mod ReadBack
 pub mod ReplayLaws
 pub mod ReplayRuns
 pub mod ReplayText

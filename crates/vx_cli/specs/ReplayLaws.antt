@@ -6,7 +6,7 @@ use Rattle.vx_feed.specs.declared.events.Event.TheVariants as event
 use Rattle.vx_claims.specs.Seen.{IsTickAt}
 use Rattle.vx_replay.specs.Ticks.{IsIndexAnswer}
 use Rattle.vx_replay.proofs.TickAnswerIsOne.{tick_answer_is_one}
-use Rattle.vx_cli.specs.ReplayRuns.{GivesAnswer, IsAnsweredLast}
+use Rattle.vx_cli.specs.ReplayRuns.{GivesAnswer, GivesWritten, IsAnsweredLast}
 use Rattle.vx_cli.specs.ReplayText.{Answered}
 
 -- the minute of an event that is a tick
@@ -33,8 +33,11 @@ last_is_one events a b h k =
 last_is_tick : (events : List Event) (a : Answered) → IsAnsweredLast events a → IsTickAt events (length events) a.tick.time
 last_is_tick events a h = subst (λ (l : ℕ). IsTickAt events l a.tick.time) h.last h.is_answer.is_tick
 
-pub gives_one : (events : List Event) (a b : Option Answered) → GivesAnswer events a → GivesAnswer events b → a ≡ b
-gives_one events (Some a) (Some b) h k = ap (λ (x : Answered). Some x) (last_is_one events a b h k)
-gives_one events (Some a) None h none = absurd (none a.tick.time (last_is_tick events a h))
-gives_one events None (Some b) none k = absurd (none b.tick.time (last_is_tick events b k))
-gives_one events None None h k = refl
+answers_one : (events : List Event) (a b : Option Answered) → GivesAnswer events a → GivesAnswer events b → a ≡ b
+answers_one events (Some a) (Some b) h k = ap (λ (x : Answered). Some x) (last_is_one events a b h k)
+answers_one events (Some a) None h none = absurd (none a.tick.time (last_is_tick events a h))
+answers_one events None (Some b) none k = absurd (none b.tick.time (last_is_tick events b k))
+answers_one events None None h k = refl
+
+pub gives_one : (events : List Event) (a b : Option Answered) → GivesWritten events a → GivesWritten events b → a ≡ b
+gives_one events a b h k = answers_one events a b h.0 k.0

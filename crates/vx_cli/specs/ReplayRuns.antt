@@ -1,5 +1,5 @@
 -- What `replay` makes of the events of a feed. This project's own.
-use Rattle.std.specs.Prelude.{◌≡◌, ℕ, List, length, Option, Some, None}
+use Rattle.std.specs.Prelude.{◌≡◌, ℕ, List, length, Option, Some, None, IfSome}
 use Rattle.vx_clock.specs.declared.limits.TheConstants.{INDEX_DAYS, INDEX_WINDOW}
 use Rattle.vx_feed.specs.declared.events.Event.{Event}
 use Rattle.vx_feed.specs.declared.events.Event.TheVariants as event
@@ -13,6 +13,7 @@ use Rattle.vx_replay.specs.declared.answer.TickAnswer.TheVariants.{Published, Un
 use Rattle.vx_replay.specs.Ticks.{IsIndexAnswer}
 use Rattle.vx_replay.specs.Lawful.{IsLawfulAnswer}
 use Rattle.vx_cli.specs.ExitText.{Text}
+use Rattle.vx_cli.specs.ReadBack.{CertificateIsRead}
 use Rattle.vx_cli.specs.ReplayText.{Answered, certified_text, tick_text}
 
 -- the minute of an event that is a tick
@@ -31,6 +32,10 @@ abbrev pub GivesAnswer : List Event → Option Answered → Type 0
 GivesAnswer events (Some a) = IsAnsweredLast events a
 GivesAnswer events None = (time : ℕ) → ¬ IsTickAt events (length events) time
 
+-- and the answer's certificate, where it has one, is read back from the line that is written
+abbrev pub GivesWritten : List Event → Option Answered → Type 0
+GivesWritten events said = GivesAnswer events said × IfSome said (λ a. CertificateIsRead a.answer)
+
 -- one answer by its kind
 abbrev pub tally_of_answer : TickAnswer → Tally
 tally_of_answer (Published cents lo hi certificate) = record { published = 1; undecided = 0; refused = 0 }
@@ -41,7 +46,7 @@ tally_of_answer (Refused reason which) = record { published = 0; undecided = 0; 
 -- what `replay` makes of a feed's events
 abbrev pub replay_rules : TickRules Answered
 replay_rules = record {
-  IsGiven = GivesAnswer;
+  IsGiven = GivesWritten;
   certificate = λ a. certified_text a.answer;
   line = λ a. tick_text INDEX_DAYS a.tick.time a.answer;
   tally = λ a. tally_of_answer a.answer;

@@ -13,6 +13,7 @@ use Rattle.vx_soq.specs.Lawful.{IsLawfulOpening}
 use Rattle.vx_drivers.specs.declared.exit.Exit.{Exit}
 use Rattle.vx_drivers.specs.PositionRun.{PositionRules, RunsPositions, positions_of}
 use Rattle.vx_cli.specs.ExitText.{Text}
+use Rattle.vx_cli.specs.ReadBack.{OpeningCertificateIsRead}
 use Rattle.vx_cli.specs.SettleText.{Settled, figure_of, last_text, opening_certificate_text, opening_clock, opening_text, settled_line}
 
 -- an opening, by its minute where one was taken, with its answer
@@ -20,11 +21,13 @@ pub record AnsweredOpening : Type 0 where
   pub time : Option ℕ
   pub answer : OpeningAnswer
 
--- this is the opening of the events, and its answer: that of the opening figure, and a lawful one
+-- this is the opening of the events, and its answer: that of the opening figure, and a lawful one, whose certificate, where it has one,
+-- is read back from the line that is written
 pub record IsAnsweredOpening (events : List Event) (a : AnsweredOpening) : Type 0 where
   pub time_is : a.time ≡ opening_time events
   pub is_answer : IsOpeningAnswer events a.answer
   pub is_lawful : IsLawfulOpening events a.answer
+  pub is_read : OpeningCertificateIsRead a.answer
 
 -- what a position settles to at a figure: its amount, or nothing without a figure
 abbrev pub SettlesTo : Option ℕ → Position → Option Settled → Type 0

@@ -1,5 +1,6 @@
 //! Laws of what the commands write. Each function does nothing: its clause is the law.
 
+ghost use Rattle.vx_cli.specs.Accepted.{ReplayIsAccepted, SettleIsAccepted};
 ghost use Rattle.vx_cli.specs.Laws.{CheckIsOne, DrillAnswersEveryTick, DrillIsOne, ReplayIsOne, SettleIsOne};
 
 /// What `check` answers, and where its run ends, is a function of the feed and the certificates.
@@ -25,4 +26,15 @@ pub fn drill_is_one()
 /// `drill` counts as many answers as ticks were asked for.
 pub fn drill_answers_every_tick()
     ensures { DrillAnswersEveryTick }
+{}
+
+/// `check` over the same feed says yes to each certificate that a run of `replay` wrote, where they are no more
+/// than it reads, and does nothing else.
+pub fn replay_is_accepted()
+    ensures { ReplayIsAccepted }
+{}
+
+/// `check` over the same feed says yes to the certificate that a run of `settle` wrote, and does nothing else.
+pub fn settle_is_accepted()
+    ensures { SettleIsAccepted }
 {}

@@ -20,7 +20,8 @@ mod words;
 
 pub use complaint::exit_line;
 pub use laws::{
-    check_is_one, drill_answers_every_tick, drill_is_one, replay_is_one, settle_is_one,
+    check_is_one, drill_answers_every_tick, drill_is_one, replay_is_accepted, replay_is_one,
+    settle_is_accepted, settle_is_one,
 };
 pub use program::run;
 pub use vx_drivers::{Exit, FeedCause, LineCause, PositionCause};

@@ -3,6 +3,7 @@
 ghost use Rattle.std.specs.Prelude.{◌≡◌, ◌++◌, ◌≤◌, [], ◌∷◌, codes, pos, OnOk};
 ghost use Rattle.vx_soq.specs.Written.{CanBeWritten};
 ghost use Rattle.vx_cli.specs.OutputLines.{comma_separated, count_text, line_of, signed_text};
+ghost use Rattle.vx_cli.specs.ReadBack.{OpeningCertificateIsRead};
 ghost use Rattle.vx_cli.specs.SettleText as text;
 
 use crate::tick_lines::{push_index_ends, push_signed, push_straddled, refusal_word};
@@ -112,7 +113,8 @@ pub(crate) fn push_opening_certificate(
     answer: &OpeningAnswer,
 ) -> Result<(), NoMemory>
     requires { CanBeWritten answer.now }
-    ensures { OnOk result (line.new.items ≡ line.old.items ++ text.opening_certificate_text answer.now) }
+    ensures text { OnOk result (line.new.items ≡ line.old.items ++ text.opening_certificate_text answer.now) }
+    ensures read_back { OnOk result (OpeningCertificateIsRead answer.now) }
 {
     match answer {
         OpeningAnswer::Published(figure) => write_cert(alloc, &figure.certificate, line),

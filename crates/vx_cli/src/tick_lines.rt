@@ -4,6 +4,7 @@ ghost use Rattle.std.specs.Prelude.{◌≡◌, ◌++◌, ◌≤◌, [], ◌∷�
 ghost use Rattle.vx_clock.specs.Clock.{clock_text};
 ghost use Rattle.vx_cli.specs.OutputLines.{comma_separated, count_text, forward_end_text, index_end_text, line_of, signed_text, strike_text};
 ghost use Rattle.vx_replay.specs.Joinable.{CanBeWritten};
+ghost use Rattle.vx_cli.specs.ReadBack.{CertificateIsRead};
 ghost use Rattle.vx_cli.specs.ReplayRuns.{tally_of_answer};
 ghost use Rattle.vx_cli.specs.ReplayText.{certified_text, reason_word, refusal_word, tick_text, which_word};
 
@@ -197,7 +198,8 @@ pub(crate) fn push_certificate(
     answer: &TickAnswer,
 ) -> Result<(), NoMemory>
     requires { ∥ CanBeWritten answer.now ∥₁ }
-    ensures { OnOk result (line.new.items ≡ line.old.items ++ certified_text answer.now) }
+    ensures text { OnOk result (line.new.items ≡ line.old.items ++ certified_text answer.now) }
+    ensures read_back { OnOk result (CertificateIsRead answer.now) }
 {
     match answer {
         TickAnswer::Published { certificate, .. } => write_cert(alloc, certificate, line),

@@ -10,6 +10,7 @@ returns c = λ events stands lawful.
     sheet_opened events answer time c.push_opening_certificate.new.line.items c.push_opening.new.line.items _
     (c.opening_minute-time.ensures ∙ time_kept events c.args.self.now.book.opened stands.opened)
     (c.in_ok-answer.ensures.answer events stands) (c.in_ok-answer.ensures.lawful events stands lawful) (c.in_ok-answer.ensures.writable events stands lawful)
-    (c.in_ok-push_opening_certificate.ensures ∙ ap (λ t. t ++ opening_certificate_text answer) c.requires.certificate)
+    c.in_ok-push_opening_certificate.ensures.read_back
+    (c.in_ok-push_opening_certificate.ensures.text ∙ ap (λ t. t ++ opening_certificate_text answer) c.requires.certificate)
     (c.in_ok-push_opening.ensures ∙ ap (λ t. t ++ opening_text (opening_clock time) answer) c.requires.line)
     c.figure_of.ensures refl
