@@ -8,7 +8,7 @@ use Rattle.vx_clock.specs.declared.terms.Moment.{Moment}
 use Rattle.vx_clock.specs.Terms.{IsNearTerm, IsNextTerm}
 use Rattle.vx_clock.proofs.TermsAreOne.{near_is_one, next_is_one}
 use Rattle.vx_feed.specs.declared.events.Event.{Event}
-use Rattle.vx_feed.specs.Listed.{declared_expiries, trade_date}
+use Rattle.vx_feed.specs.Listed.{declared_expiries}
 use Rattle.vx_cert.specs.declared.certificate.CertBody.{CertBody}
 use Rattle.vx_cert.specs.declared.certificate.CertBody.TheVariants.{K0, Single, Index, Soq}
 use Rattle.vx_cert.specs.declared.certificate.CertFigure.{CertFigure}

@@ -1,5 +1,5 @@
 -- `check` says yes to each certificate that `replay` wrote.
-use Rattle.std.proofs.Common.{◌≡◌, ◌∙◌, sym, ap, subst, refl, ℕ, ℤ, ◌+◌, ◌≤◌, Bool, true, false, List, [], ◌∷◌, ◌++◌, length, take, Option, Some, None, Ok, arith, append_assoc, append-nil}
+use Rattle.std.proofs.Common.{◌≡◌, ◌∙◌, sym, ap, subst, refl, ℕ, ℤ, ◌+◌, ◌≤◌, Bool, false, List, [], ◌∷◌, ◌++◌, length, take, Option, Some, None, Ok, arith, append_assoc, append-nil}
 use Rattle.std.specs.Prelude.{nat_le, nat_lt, codes}
 use Rattle.std.specs.List.{All}
 use Rattle.std.specs.Option.{option_map_or, option_to_list}
@@ -8,7 +8,7 @@ use Rattle.std.proofs.lemmas.Bool.Decides.{nat_tests}
 use Rattle.std.proofs.lemmas.List.{length-append}
 use Rattle.std.proofs.lemmas.List.Sums.{sum_by-cons}
 use Rattle.std.proofs.lemmas.List.Elements.{All-nil, All-cons, All-append}
-use Rattle.vx_lines.specs.TextLines.{TextLines, at_end, at_most, ended, lines_of, text_of}
+use Rattle.vx_lines.specs.TextLines.{at_end, at_most, ended, lines_of, text_of}
 use Rattle.vx_lines.specs.Cut.{IsLine}
 use Rattle.vx_lines.proofs.CutLemmas.{cut_is_lines}
 use Rattle.vx_lines.proofs.MostLemmas.{at_most_all}

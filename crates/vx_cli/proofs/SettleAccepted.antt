@@ -1,11 +1,9 @@
 -- `check` says yes to the certificate that `settle` wrote.
-use Rattle.std.proofs.Common.{◌≡◌, ◌∙◌, sym, ap, subst, refl, ℕ, ℤ, ◌-◌, ◌≤◌, Bool, true, false, List, [], ◌∷◌, ◌++◌, length, take, Option, Some, None, Ok, arith, append-nil}
+use Rattle.std.proofs.Common.{◌≡◌, ◌∙◌, sym, ap, subst, refl, ℕ, ℤ, ◌-◌, ◌≤◌, Bool, false, List, [], ◌∷◌, ◌++◌, length, take, Option, Some, None, Ok, arith, append-nil}
 use Rattle.std.specs.Prelude.{nat_lt, codes, is_some, slice_get}
-use Rattle.std.specs.List.{All}
 use Rattle.std.proofs.lemmas.Bool.Decides.{nat_tests}
-use Rattle.std.proofs.lemmas.Option.{same_Some}
 use Rattle.std.proofs.lemmas.List.Elements.{All-nil, All-cons}
-use Rattle.vx_lines.specs.TextLines.{TextLines, at_end, at_most, ended, lines_of, text_of}
+use Rattle.vx_lines.specs.TextLines.{TextLines, at_end, at_most, ended, lines_of}
 use Rattle.vx_lines.specs.Cut.{IsLine}
 use Rattle.vx_lines.proofs.CutLemmas.{cut_is_lines}
 use Rattle.vx_lines.proofs.LineLemmas.{lines_of_nothing}
@@ -21,10 +19,9 @@ use Rattle.vx_cert.specs.declared.certificate.CertBody.TheVariants.{K0, Single, 
 use Rattle.vx_cert.specs.declared.certificate.Certificate.{Certificate}
 use Rattle.vx_cert.specs.Written.{certificate_line}
 use Rattle.vx_formula.specs.Index.{OneTerm}
-use Rattle.vx_formula.specs.Refusal.{OpeningReason, OpeningRefuses, no_opening}
-use Rattle.vx_formula.specs.Term.{Term}
+use Rattle.vx_formula.specs.Refusal.{no_opening}
 use Rattle.vx_claims.specs.Answers.{PublishesOpening, StatesOpening}
-use Rattle.vx_claims.specs.Means.{BodyMeans, IsFigureOf, Means}
+use Rattle.vx_claims.specs.Means.{BodyMeans, Means}
 use Rattle.vx_claims.specs.Seen.{IsOpeningAt}
 use Rattle.vx_claims.proofs.OpeningPlaces.{opening_stands}
 use Rattle.vx_soq.specs.declared.answer.OpeningAnswer.{OpeningAnswer}
@@ -33,8 +30,7 @@ use Rattle.vx_soq.specs.Lawful.{IsLawfulOpening}
 use Rattle.vx_drivers.specs.declared.exit.Exit.{Exit}
 use Rattle.vx_drivers.specs.declared.exit.Exit.TheVariants.{Done}
 use Rattle.vx_drivers.specs.declared.limits.TheConstants.{CERT_LINES_MAX, CERT_LINE_LEN_MAX}
-use Rattle.vx_drivers.specs.Along.{Along}
-use Rattle.vx_drivers.specs.Answers.{Answer, said_yes, answers_text, count_no, end_text}
+use Rattle.vx_drivers.specs.Answers.{said_yes, answers_text, end_text}
 use Rattle.vx_drivers.specs.CertificateRun.{Answers, AnswersCertificate, Stand, certificates_of, start}
 use Rattle.vx_drivers.specs.PositionRun.{RunsUnlessBad, positions_of}
 use Rattle.vx_cli.specs.Accepted.{OpeningIsAccepted, SettleIsAccepted, yes_to_opening}
@@ -42,12 +38,12 @@ use Rattle.vx_cli.specs.CheckRuns.{Checks, IsVerdict, check_rules, stated_text, 
 use Rattle.vx_cli.specs.ExitText.{Text}
 use Rattle.vx_cli.specs.OutputLines.{cents_text}
 use Rattle.vx_cli.specs.ReadBack.{IsReadFromLine, OpeningCertificateIsRead}
-use Rattle.vx_cli.specs.SettleRuns.{AnsweredOpening, IsAnsweredOpening, Settles, settle_rules}
-use Rattle.vx_cli.specs.SettleText.{figure_of, opening_certificate_text, opening_clock}
+use Rattle.vx_cli.specs.SettleRuns.{AnsweredOpening, settle_rules}
+use Rattle.vx_cli.specs.SettleText.{opening_certificate_text}
 use Rattle.vx_cli.proofs.CheckIsOne.{just_checks}
 use Rattle.vx_cli.proofs.PublishedMeans.{figure_stated}
 use Rattle.vx_cli.proofs.ReplayAccepted.{not_met, readable}
-use Rattle.vx_cli.proofs.UpToOpening.{BeginsWithHeader, feed_begins, publishes_up_to}
+use Rattle.vx_cli.proofs.UpToOpening.{feed_begins, publishes_up_to}
 
 -- ---- a published opening is a certificate that means what it states
 

@@ -26,16 +26,14 @@ use Rattle.vx_cert.specs.declared.certificate.CertFigure.{CertFigure}
 use Rattle.vx_cert.specs.declared.certificate.CertTerm.{CertTerm}
 use Rattle.vx_cert.specs.declared.certificate.Certificate.{Certificate}
 use Rattle.vx_formula.specs.declared.limits.TheConstants.{THIRTY_DAYS}
-use Rattle.vx_formula.specs.Index.{OneTerm}
-use Rattle.vx_formula.specs.Refusal.{OpeningFacts, OpeningReason, OpeningRefuses, IsOpeningBasis}
-use Rattle.vx_formula.specs.Term.{Term, TermFacts}
+use Rattle.vx_formula.specs.Refusal.{OpeningFacts, OpeningRefuses, IsOpeningBasis}
+use Rattle.vx_formula.specs.Term.{TermFacts}
 use Rattle.vx_claims.specs.declared.acceptance.Test.{Test}
 use Rattle.vx_claims.specs.declared.acceptance.Test.TheVariants as test
 use Rattle.vx_claims.specs.declared.limits.TheConstants.{SCALE}
-use Rattle.vx_claims.specs.Accepts.{Accepts, BodyMeets, IsOpeningExpiry, OpeningTermMeets, SoqMeets, scale_of}
+use Rattle.vx_claims.specs.Accepts.{BodyMeets, IsOpeningExpiry, OpeningTermMeets, SoqMeets, scale_of}
 use Rattle.vx_claims.specs.Answers.{PublishesOpening, StatesOpening}
-use Rattle.vx_claims.specs.Means.{BodyMeans, IsFigureOf, Means}
-use Rattle.vx_claims.specs.Seen.{IsOpeningAt, opening_expiry, opening_facts, opening_term_facts, opening_term_of}
+use Rattle.vx_claims.specs.Seen.{IsOpeningAt, opening_expiry, opening_facts, opening_term_facts}
 use Rattle.vx_claims.specs.TermTests.{TermMeets}
 
 -- ---- the header is the first event
