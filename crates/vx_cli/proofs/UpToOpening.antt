@@ -1,5 +1,5 @@
 -- What a feed shows at the opening, it shows after its events up to there.
-use Rattle.std.proofs.Common.{◌≡◌, ◌∙◌, sym, ap, subst, refl, ℕ, ℤ, suc, zero, ◌+◌, ◌-◌, true, false, cond, Bool, List, [], ◌∷◌, ◌++◌, length, map, take, Option, Some, None, Result, Ok, Err, arith}
+use Rattle.std.proofs.Common.{◌≡◌, ◌∙◌, sym, ap, subst, refl, ℕ, ℤ, suc, zero, ◌-◌, true, false, cond, Bool, List, [], ◌∷◌, ◌++◌, length, map, take, Option, Some, None, Result, Ok, Err, arith}
 use Rattle.std.specs.Prelude.{◌==◌, IsTrue, is_some, slice_get, if◌then◌else◌}
 use Rattle.std.specs.List.{list_all, list_any}
 use Rattle.std.specs.Option.{option_and_then}
