@@ -6,6 +6,7 @@ pub mod ExitLemmas
 mod FailureLemmas
 pub mod OneRun
 pub mod PositionLawLemmas
+pub mod PositionRunIsThere
 pub mod PositionRunLemmas
 pub mod RunIsThere
 pub mod RunLemmas

@@ -27,7 +27,7 @@ pub use check_run::answer_certificates;
 pub use devices::{open_slot, send_line};
 pub use exit::{Exit, LineCause, PositionCause};
 pub use laws::{certificate_run_is_one, certificate_run_is_there};
-pub use position_laws::position_run_is_one;
+pub use position_laws::{position_run_is_one, position_run_is_there};
 pub use position_run::settle_positions;
 pub use positions::{AnswersOpening, SettlesPositions};
 pub use tick_laws::tick_run_is_one;
