@@ -1,0 +1,6 @@
+-- The law is a lemma of Runs.
+use Rattle.vx_whole.proofs.Runs.{settle_is_there as proof}
+use Rattle.vx_whole.proofs.laws.settle_is_there.Goals as goal
+
+pub returns : goal.returns
+returns c = proof
