@@ -5,4 +5,6 @@ pub mod TermTests
 pub mod FigureTests
 pub mod Verdicts
 pub mod Readings
-pub mod Runs
+pub mod Certificates
+pub mod Positions
+pub mod Ticks

@@ -1,5 +1,5 @@
--- The law is a lemma of Runs.
-use Rattle.vx_whole.proofs.Runs.{settle_is_there as proof}
+-- The law is a lemma of Positions.
+use Rattle.vx_whole.proofs.Positions.{settle_is_there as proof}
 use Rattle.vx_whole.proofs.laws.settle_is_there.Goals as goal
 
 pub returns : goal.returns
