@@ -1,6 +1,6 @@
 -- What is kept of positions that were settled.
-use Rattle.std.proofs.Common.{◌≡◌, ◌≢◌, ◌∙◌, sym, ap, subst, refl, ℕ, ◌+◌, ◌*◌, ◌^◌, ◌≤◌, ◌⊎◌, inl, inr, ℤ, pos, ◌+ℤ◌, List, [], ◌∷◌, ◌++◌, length, Option, Some, None, IfSome, arith, Result, Ok, Err, FitsSigned}
-use Rattle.std.specs.Prelude.{nat_abs, option_map}
+use Rattle.std.proofs.Common.{◌≡◌, ◌==◌, ◌∙◌, sym, ap, subst, refl, ℕ, ◌+◌, ◌*◌, ◌^◌, ◌≤◌, Bool, true, false, ℤ, pos, ◌+ℤ◌, List, [], ◌∷◌, ◌++◌, length, Option, Some, None, IfSome, arith, Result, Ok, Err, FitsSigned}
+use Rattle.std.specs.Prelude.{nat_abs, option_map, if◌then◌else◌}
 use Rattle.std.proofs.lemmas.Int.{ints, fits_signed_from_abs}
 use mir.Syntax.{w128}
 use Rattle.vx_num.specs.declared.limits.TheConstants.{CENTS_MAX}
@@ -19,16 +19,17 @@ use Rattle.vx_soq.specs.Lawful.{IsLawfulOpening}
 use Rattle.vx_soq.specs.Written.{CanBeWritten}
 use Rattle.vx_settle.specs.declared.position.Position.{Position}
 use Rattle.vx_settle.specs.declared.fault.PositionFault.{PositionFault}
-use Rattle.vx_settle.specs.declared.fault.PositionFault.TheVariants.{NoMemory}
 use Rattle.vx_settle.specs.declared.fault.PositionFault.TheVariants as fault
 use Rattle.vx_settle.specs.Amount.{IsAmount, total_of}
-use Rattle.vx_settle.specs.Form.{position_of_line}
+use Rattle.vx_fields.specs.Lines.{field}
+use Rattle.vx_settle.specs.declared.position.Contract.{Contract}
+use Rattle.vx_settle.specs.Form.{contract_of_text, last_of_text, position_of_fields, position_of_line, position_of_parts, position_unless, quantity_of_text}
 use Rattle.vx_drivers.specs.PositionExits.{IsLineFault}
+use Rattle.vx_drivers.specs.PositionLines.{IsSplit}
 use Rattle.vx_drivers.specs.PositionSteps.{AddsUnless, OpensSheet}
 use Rattle.vx_drivers.specs.Sending.{Text}
 use Rattle.vx_cli.specs.declared.settle.Settlement.{Settlement}
-use Rattle.vx_cli.specs.ReadBack.{OpeningCertificateIsRead}
-use Rattle.vx_cli.specs.SettleRuns.{AnsweredOpening, LineComesTo, SettlesTo, settle_rules}
+use Rattle.vx_cli.specs.SettleRuns.{AnsweredOpening, SettlesTo, settle_rules}
 use Rattle.vx_cli.specs.SettleSheet.{HasSettledOn}
 use Rattle.vx_cli.specs.SettleText.{Settled, amounts_of, figure_of, opening_certificate_text, opening_clock, opening_text, position_text}
 
@@ -107,30 +108,25 @@ nothing_more sheet a items h none =
 
 -- ---- what a line comes to
 
-named : (why : PositionFault) → why ≢ NoMemory → IsLineFault why
-named fault.NoMemory other = other refl
-named fault.Byte other = tt
-named fault.Fields other = tt
-named (fault.Field n) other = tt
+same_err : {a b : PositionFault} → ◌≡◌ {A = Result Position PositionFault} (Err a) (Err b) → a ≡ b
+same_err h = cc
 
-same_err : (a b : PositionFault) (r : Result Position PositionFault) → r ≡ Err a → r ≡ Err b → a ≡ b
-same_err a b r h k = cc
+parts_named : (contract : Option Contract) (quantity : Option ℤ) (last : Option ℕ) (why : PositionFault) → position_of_parts contract quantity last ≡ Err why → IsLineFault why
+parts_named None quantity last why is = subst IsLineFault (same_err is) tt
+parts_named (Some c) None last why is = subst IsLineFault (same_err is) tt
+parts_named (Some c) (Some n) None why is = subst IsLineFault (same_err is) tt
+parts_named (Some c) (Some n) (Some price) why is = absurd (let no : ⊥ = cc in no)
 
-not_both : (p : Position) (b : PositionFault) (r : Result Position PositionFault) → r ≡ Ok p → r ≡ Err b → ⊥
-not_both p b r h k = cc
+fields_named : (are_three : Bool) (said : Result Position PositionFault) (why : PositionFault) → (said ≡ Err why → IsLineFault why)
+    → (if are_three then said else Err fault.Fields) ≡ Err why → IsLineFault why
+fields_named true said why named is = named is
+fields_named false said why named is = subst IsLineFault (same_err is) tt
 
--- a line that is no position
-pub line_faulty : (figure : Option ℕ) (line : List ℕ) (result : Result Position PositionFault) (why : PositionFault)
-    → (result ≡ position_of_line line) ⊎ (result ≡ Err NoMemory) → result ≡ Err why → why ≢ NoMemory
-    → LineComesTo figure line (Err why) × IsLineFault why
-line_faulty figure line result why (inl same) is other = (sym same ∙ is, named why other)
-line_faulty figure line result why (inr full) is other = absurd (other (same_err why NoMemory result is full))
-
--- the position of a line
-pub line_read : (line : List ℕ) (result : Result Position PositionFault) (p : Position)
-    → (result ≡ position_of_line line) ⊎ (result ≡ Err NoMemory) → result ≡ Ok p → position_of_line line ≡ Ok p
-line_read line result p (inl same) is = sym same ∙ is
-line_read line result p (inr full) is = absurd (not_both p NoMemory result is full)
+-- the fields of a line say what the line says
+line_read : (line : List ℕ) (fields : List (List ℕ)) (result : Result Position PositionFault) → IsSplit line fields → result ≡ position_of_fields fields
+    → result ≡ position_of_line line
+line_read line fields result split is =
+    is ∙ ap position_of_fields split.fields_are ∙ sym (ap (λ (o : Option PositionFault). position_unless o line) split.can_be)
 
 -- ---- the opening
 
@@ -189,35 +185,38 @@ sheet_opened events answer time certificate line sheet time_is is_answer lawful 
 -- ---- a line, whole
 
 -- the line is no position
-pub adds_fault : (a : AnsweredOpening) (items : List (Option Settled)) (text : List ℕ) (line : Text) (sheet : Settlement)
-    (result : Result Position PositionFault) (why : PositionFault)
-    → (result ≡ position_of_line text) ⊎ (result ≡ Err NoMemory) → result ≡ Err why → why ≢ NoMemory
+pub adds_fault : (a : AnsweredOpening) (items : List (Option Settled)) (text : List ℕ) (fields : List (List ℕ)) (line : Text) (sheet : Settlement)
+    (result : Result Position PositionFault) (why : PositionFault) → IsSplit text fields → result ≡ position_of_fields fields → result ≡ Err why
     → AddsUnless settle_rules HasSettledOn a items text line sheet (Some why)
-adds_fault a items text line sheet result why reads is other = line_faulty (figure_of a.answer) text result why reads is other
+adds_fault a items text fields line sheet result why split reads is = (
+  sym (line_read text fields result split reads) ∙ is,
+  fields_named (length fields == 3) (position_of_parts (contract_of_text (field fields 1)) (quantity_of_text (field fields 2)) (last_of_text (field fields 3))) why
+      (parts_named (contract_of_text (field fields 1)) (quantity_of_text (field fields 2)) (last_of_text (field fields 3)) why) (sym reads ∙ is),
+)
 
 -- there is no figure
-pub adds_nothing : (a : AnsweredOpening) (items : List (Option Settled)) (text : List ℕ) (line : Text) (sheet : Settlement)
+pub adds_nothing : (a : AnsweredOpening) (items : List (Option Settled)) (text : List ℕ) (fields : List (List ℕ)) (line : Text) (sheet : Settlement)
     (result : Result Position PositionFault) (p : Position) → HasSettledOn sheet a items
-    → (result ≡ position_of_line text) ⊎ (result ≡ Err NoMemory) → result ≡ Ok p → sheet.figure ≡ None → line ≡ []
+    → IsSplit text fields → result ≡ position_of_fields fields → result ≡ Ok p → sheet.figure ≡ None → line ≡ []
     → AddsUnless settle_rules HasSettledOn a items text line sheet None
-adds_nothing a items text line sheet result p h reads is none empty = record {
+adds_nothing a items text fields line sheet result p h split reads is none empty = record {
   item = None;
-  comes = (p, line_read text result p reads is, subst (λ o. SettlesTo o p None) (sym none ∙ h.figure_is) refl);
+  comes = (p, sym (line_read text fields result split reads) ∙ is, subst (λ o. SettlesTo o p None) (sym none ∙ h.figure_is) refl);
   line_is = empty;
   stands = nothing_more sheet a items h none;
 }
 
 -- a position with its amount
-pub adds_amount : (a : AnsweredOpening) (items : List (Option Settled)) (text : List ℕ) (line : Text) (old new : Settlement)
+pub adds_amount : (a : AnsweredOpening) (items : List (Option Settled)) (text : List ℕ) (fields : List (List ℕ)) (line : Text) (old new : Settlement)
     (result : Result Position PositionFault) (p : Position) (figure number : ℕ) (amount : ℤ) → HasSettledOn old a items
-    → (result ≡ position_of_line text) ⊎ (result ≡ Err NoMemory) → result ≡ Ok p → old.figure ≡ Some figure → IsAmount figure p amount
+    → IsSplit text fields → result ≡ position_of_fields fields → result ≡ Ok p → old.figure ≡ Some figure → IsAmount figure p amount
     → nat_abs amount ≤ 2 ^ 56 → new.figure ≡ old.figure → new.total ≡ old.total +ℤ amount → line ≡ position_text number p amount
     → number ≡ length items + 1 → AddsUnless settle_rules HasSettledOn a items text line new None
-adds_amount a items text line old new result p figure number amount h reads is some settles within same total line_is numbered = record {
+adds_amount a items text fields line old new result p figure number amount h split reads is some settles within same total line_is numbered = record {
   item = Some (record { position = p; amount = amount });
   comes = (
     p,
-    line_read text result p reads is,
+    sym (line_read text fields result split reads) ∙ is,
     subst (λ o. SettlesTo o p (Some (record { position = p; amount = amount }))) (sym some ∙ h.figure_is) (amount, settles, refl),
   );
   line_is = line_is ∙ ap (λ n. position_text n p amount) numbered;

@@ -1,9 +1,10 @@
--- An opening has one answer at most, and a line of positions comes to one thing at most.
+-- An opening has one answer at most; a line of positions comes to one thing at most, and one that cannot be split to its
+-- fault.
 use Rattle.std.proofs.Common.{◌≡◌, ◌∙◌, ℕ, ℤ, List, Option, Some, None, Result, Ok, Err, sym, ap, subst}
 use Rattle.vx_feed.specs.declared.events.Event.{Event}
 use Rattle.vx_settle.specs.declared.position.Position.{Position}
 use Rattle.vx_settle.specs.declared.fault.PositionFault.{PositionFault}
-use Rattle.vx_settle.specs.Form.{position_of_line}
+use Rattle.vx_settle.specs.Form.{position_of_line, position_unless, unsplit_fault}
 use Rattle.vx_settle.proofs.Amounts.{amount_is_one}
 use Rattle.vx_soq.proofs.OpeningAnswerIsOne.{opening_answer_is_one}
 use Rattle.vx_cli.specs.SettleRuns.{AnsweredOpening, IsAnsweredOpening, LineComesTo, SettlesTo}
@@ -47,3 +48,7 @@ line_is_one figure line (Err f) (Err e) h k =
 pub comes_to_one : (a : AnsweredOpening) (line : List ℕ) (x y : Result (Option Settled) PositionFault)
     → LineComesTo (figure_of a.answer) line x → LineComesTo (figure_of a.answer) line y → x ≡ y
 comes_to_one a line x y h k = line_is_one (figure_of a.answer) line x y h k
+
+pub none_unsplit : (a : AnsweredOpening) (line : List ℕ) (fault : PositionFault) → unsplit_fault line ≡ Some fault
+    → LineComesTo (figure_of a.answer) line (Err fault)
+none_unsplit a line fault is = ap (λ (o : Option PositionFault). position_unless o line) is

@@ -19,8 +19,9 @@ use vx_drivers::{
     AnswersOpening, Exit, SettlesPositions, TakesEvents, open_slot, settle_positions,
 };
 use vx_feed::Event;
+use vx_fields::Fields;
 use vx_num::NoMemory;
-use vx_settle::{PositionFault, amount, read_position};
+use vx_settle::{PositionFault, amount, position_of_fields};
 use vx_soq::{OpeningAnswer, opening_figure};
 
 /// The book of a feed's events, whose opening is answered.
@@ -88,7 +89,7 @@ impl AnswersOpening for OpeningBook {
 }
 
 impl SettlesPositions for Settlement {
-    ghost use Rattle.vx_cli.specs.SettleLaws.{comes_to_one as line_comes_to_one, opening_is_one};
+    ghost use Rattle.vx_cli.specs.SettleLaws.{comes_to_one as line_comes_to_one, none_unsplit as no_position, opening_is_one};
     ghost use Rattle.vx_cli.specs.SettleRuns.{AnsweredOpening, settle_rules};
     ghost use Rattle.vx_cli.specs.SettleSheet.{HasSettledOn};
     ghost use Rattle.std.specs.Prelude.{Option};
@@ -105,12 +106,11 @@ impl SettlesPositions for Settlement {
     fn settle(
         &mut self,
         count: u64,
-        text: &[u8],
+        fields: &Fields<'_>,
         line: &mut Vec<u8>,
     ) -> Result<Option<PositionFault>, NoMemory> {
-        let position = match read_position(self.alloc, text) {
+        let position = match position_of_fields(fields) {
             Ok(position) => position,
-            Err(PositionFault::NoMemory) => return Err(NoMemory),
             Err(fault) => return Ok(Some(fault)),
         };
         let figure = match self.figure {
@@ -130,6 +130,8 @@ impl SettlesPositions for Settlement {
         push_total(self.alloc, line, self.total)?;
         push_end(self.alloc, line, count)
     }
+
+    ghost none_unsplit = { no_position };
 
     ghost opens_one = { opening_is_one };
 

@@ -4,6 +4,7 @@ pub mod CauseLemmas
 mod CertificateLemmas
 pub mod ExitLemmas
 mod FailureLemmas
+mod PositionLinesLemmas
 pub mod OneRun
 pub mod PositionLawLemmas
 pub mod PositionRunIsThere

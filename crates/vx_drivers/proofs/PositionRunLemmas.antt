@@ -1,17 +1,19 @@
 -- A run that settles positions, from its start to its end.
-use Rattle.std.proofs.Common.{◌≡◌, ◌∙◌, sym, ap, subst, refl, ℕ, ◌+◌, ◌-◌, ◌<◌, ◌≤◌, ◌⊎◌, inl, inr, Bool, true, false, List, [], ◌∷◌, ◌++◌, length, take, drop, Option, Some, None, IfSome, arith, Result, Ok, Err}
+use Rattle.std.proofs.Common.{◌≡◌, ◌==◌, ◌∙◌, sym, ap, subst, refl, ℕ, ◌+◌, ◌-◌, ◌<◌, ◌≤◌, ◌⊎◌, inl, inr, Bool, true, false, List, [], ◌∷◌, ◌++◌, length, take, drop, get_or, Option, Some, None, IfSome, arith, Result, Ok, Err}
 use Rattle.std.specs.Option.{option_map}
 use Rattle.std.proofs.lemmas.List.{append-nil, append_assoc, take-append-drop}
-use Rattle.vx_lines.specs.TextLines.{TextLines, at_end, at_most, ended, line_then, lines_of, lines_then, no_eol, too_long, too_many}
+use Rattle.std.proofs.lemmas.Bool.Decides.{nat_tests}
+use Rattle.vx_lines.specs.TextLines.{Ending, TextLines, at_end, at_most, ended, line_then, lines_of, lines_then, no_eol, too_long, too_many}
 use Rattle.vx_lines.proofs.LineLemmas.{lines_then-push}
 use Rattle.vx_desk.specs.declared.device.Slot.{Slot}
 use Rattle.vx_desk.specs.declared.device.Slot.TheVariants.{Side, Out, Certs}
-use Rattle.vx_desk.specs.Coming.{IsReader, coming}
+use Rattle.vx_desk.specs.Coming.{coming}
 use Rattle.vx_desk.specs.Lines.{ReaderState}
 use Rattle.vx_desk.specs.Told.{Told}
 use Rattle.vx_feed.specs.declared.events.Event.{Event}
 use Rattle.vx_feed.specs.Feed.{Reading, stopped_at}
 use Rattle.vx_settle.specs.declared.fault.PositionFault.{PositionFault}
+use Rattle.vx_settle.specs.Form.{unsplit_fault}
 use Rattle.vx_reading.specs.declared.feed.FeedReader.{FeedReader}
 use Rattle.vx_reading.specs.declared.stop.FeedStop.{FeedStop}
 use Rattle.vx_reading.specs.declared.stop.FeedStop.TheVariants as stop
@@ -22,16 +24,21 @@ use Rattle.vx_drivers.specs.declared.exit.Exit.TheVariants.{Done, BadFeed, BadPo
 use Rattle.vx_drivers.specs.declared.exit.PositionCause.{PositionCause}
 use Rattle.vx_drivers.specs.declared.exit.PositionCause.TheVariants as cause
 use Rattle.vx_drivers.specs.declared.limits.TheConstants.{POSITION_LINES_MAX, POSITION_LINE_LEN_MAX}
+use Rattle.vx_drivers.specs.declared.position_lines.PositionLines.{PositionLines}
+use Rattle.vx_drivers.specs.declared.position_lines.Rest.{Rest}
+use Rattle.vx_drivers.specs.declared.position_lines.Rest.TheVariants.{More, End, Unsplit, TooLong, NoEol}
 use Rattle.vx_drivers.specs.declared.position_run.PositionRun.{PositionRun}
 use Rattle.vx_drivers.specs.Along.{Along}
 use Rattle.vx_drivers.specs.Exits.{exit_of_stop, is_cut}
 use Rattle.vx_drivers.specs.PositionExits.{IsPositionExit}
-use Rattle.vx_drivers.specs.PositionRun.{GivesPositionParts, NextIsBad, PositionRules, RunsPositionsBy, RunsPositionsIf, Settles, SettledBefore, items_from, positions_of, settled_text}
-use Rattle.vx_drivers.specs.PositionSteps.{AddsItem, CutsItem, EndsAtFault, HasEndedPositions, HasOpened, IsSettling, IsThroughPositions, OpensSheet, SendsItem, SettlesLine, allowed_positions, positions_told}
+use Rattle.vx_drivers.specs.PositionLines.{IsFreshLines, IsPositionLines, IsRestAfter, bad_behind as cause_behind, behind, lines_coming}
+use Rattle.vx_drivers.specs.PositionRun.{GivesPositionParts, NextIsBad, PositionRules, RunsPositionsBy, RunsPositionsIf, Settles, items_from, positions_of, settled_text}
+use Rattle.vx_drivers.specs.PositionSteps.{AddsItem, HasEndedPositions, HasOpened, IsSettling, IsThroughPositions, OpensSheet, SendsItem, SettlesLine, allowed_positions, positions_told}
 use Rattle.vx_drivers.specs.Sending.{CutsOff, Sent, SendsOr, Text}
 use Rattle.vx_drivers.specs.TickSteps.{CutsBoth}
 use Rattle.vx_drivers.proofs.AlongLemmas.{along_more}
-use Rattle.vx_drivers.proofs.RunLemmas.{allowed_line, coming_kept, nothing_waits, twice}
+use Rattle.vx_drivers.proofs.PositionLinesLemmas.{fresh_coming, next_first, none_left}
+use Rattle.vx_drivers.proofs.RunLemmas.{allowed_ended, allowed_line, allowed_none, nothing_waits, twice}
 use Rattle.vx_drivers.proofs.SendingLemmas.{sent_more, sent_none, sent_still}
 
 -- ---- lines that are told, or some where none are
@@ -475,27 +482,102 @@ module _ {A I : Type 0} (rules : PositionRules A I) where
 
 -- ---- as many lines as there may be
 
+-- lines that are read ahead are to come as they were
+pub allowed_kept : (count : ℕ) (old new : PositionLines) (before after : Slot → Told) → lines_coming new after ≡ lines_coming old before
+    → allowed_positions count old before ≡ allowed_positions count new after
+allowed_kept count old new before after same = ap (option_map (at_most (POSITION_LINES_MAX - count))) (sym same)
+
 -- the next line, of those that there may be
-pub allowed_step : (count more : ℕ) (text : List ℕ) (old new : ReaderState) (before between now : Slot → Told)
-    → coming old before ≡ option_map (line_then text) (coming new between) → new.slot ≡ Side → now Side ≡ between Side → more ≡ count + 1 → count < POSITION_LINES_MAX
-    → allowed_positions count old before ≡ option_map (line_then text) (allowed_positions more new now)
-allowed_step count more text old new before between now taken is same size few =
-    allowed_line (POSITION_LINES_MAX - count) (POSITION_LINES_MAX - more) text (coming old before) (coming new between) taken (omega (arith, size, few))
-    ∙ ap (λ (c : Option TextLines). option_map (line_then text) (option_map (at_most (POSITION_LINES_MAX - more)) c)) (sym (coming_kept Side new between now is same))
+pub allowed_step : (count more : ℕ) (old new : PositionLines) (before after : Slot → Told)
+    → IsPositionLines old → old.taken < length old.table → new ≡ record old { taken = old.taken + 1 } → after Side ≡ before Side → more ≡ count + 1 → count < POSITION_LINES_MAX
+    → allowed_positions count old before ≡ option_map (line_then (get_or old.block old.taken [])) (allowed_positions more new after)
+allowed_step count more old new before after is below next same size few =
+    allowed_line (POSITION_LINES_MAX - count) (POSITION_LINES_MAX - more) (get_or old.block old.taken []) (lines_coming old before) (lines_coming new after)
+    (next_first old new before after is below next same) (omega (arith, size, few))
+
+-- or there are as many already
+pub allowed_full : (count : ℕ) (old : PositionLines) (told : Slot → Told) → IsPositionLines old → old.taken < length old.table → count ≡ POSITION_LINES_MAX
+    → IfSome (allowed_positions count old told) (λ r. r ≡ ended too_many)
+allowed_full count old told is below full =
+    allowed_none (POSITION_LINES_MAX - count) (get_or old.block old.taken []) (lines_coming old told) (lines_coming (record old { taken = old.taken + 1 }) told)
+    (next_first old (record old { taken = old.taken + 1 }) told told is below refl refl) (omega (arith, full))
+
+-- what is bad behind the lines that were split is the next of the lines to come, or stands in its place
+pub record BadNext {A I : Type 0} (rules : PositionRules A I) (rest : Option TextLines) (why : PositionCause) : Type 0 where
+  pub left : TextLines
+  pub left_is : IfSome rest (λ r. r ≡ left)
+  pub bad : (answer : A) → NextIsBad rules answer left why
+
+abbrev FaultsUnsplit : {A I : Type 0} → PositionRules A I → Type 0
+FaultsUnsplit {A} {I} rules = (answer : A) (text : List ℕ) (f : PositionFault) → unsplit_fault text ≡ Some f → rules.ComesTo answer text (Err f)
+
+-- what stands in place of a line, by its ending
+place_left : {A I : Type 0} (rules : PositionRules A I) (most : ℕ) (ending : Ending) (why given : PositionCause) (o : Option TextLines)
+    → ((answer : A) → NextIsBad rules answer (ended ending) why) → Some why ≡ Some given → BadNext rules (option_map (at_most most) (option_map (λ (text : TextLines). ended ending) o)) given
+place_left rules most ending why given o bad is = record {
+  left = ended ending;
+  left_is = allowed_ended most ending (option_map (λ (text : TextLines). ended ending) o) (always o);
+  bad = λ answer. subst (λ (w : PositionCause). NextIsBad rules answer (ended ending) w) (same_some is) (bad answer);
+}
+  where
+    always : (o : Option TextLines) → IfSome (option_map (λ (text : TextLines). ended ending) o) (λ r. r ≡ ended ending)
+    always None = tt
+    always (Some text) = refl
+
+bad_rest : {A I : Type 0} (rules : PositionRules A I) (count : ℕ) (last : List ℕ) (rest : Rest) (is_full : Bool) (why : PositionCause) (o : Option TextLines)
+    → FaultsUnsplit rules → IsRestAfter last rest → (count == POSITION_LINES_MAX) ≡ is_full → count ≤ POSITION_LINES_MAX → cause_behind rest is_full ≡ Some why
+    → BadNext rules (option_map (at_most (POSITION_LINES_MAX - count)) (option_map (behind last rest) o)) why
+bad_rest rules count last More is_full why o faults is full few bad = absurd (let no : ⊥ = cc in no)
+bad_rest rules count last End is_full why o faults is full few bad = absurd (let no : ⊥ = cc in no)
+bad_rest rules count last (Unsplit f) true why o faults is full few bad =
+    let all : count ≡ POSITION_LINES_MAX = grind (arith, nat_tests) in
+    record {
+      left = ended too_many;
+      left_is = allowed_none (POSITION_LINES_MAX - count) last (option_map (line_then last) o) o refl (omega (arith, all));
+      bad = λ answer. subst (λ (w : PositionCause). NextIsBad rules answer (ended too_many) w) (same_some bad) refl;
+    }
+bad_rest rules count last (Unsplit f) false why o faults is full few bad =
+    let less : count < POSITION_LINES_MAX = grind (arith, nat_tests) in
+    let rest = option_map (at_most (POSITION_LINES_MAX - (count + 1))) o in
+    let after = some_left rest in
+    record {
+      left = line_then last after.left;
+      left_is = next_left (option_map (at_most (POSITION_LINES_MAX - count)) (option_map (line_then last) o)) rest last after
+          (allowed_line (POSITION_LINES_MAX - count) (POSITION_LINES_MAX - (count + 1)) last (option_map (line_then last) o) o refl (omega (arith, less)));
+      bad = λ answer. subst (λ (w : PositionCause). NextIsBad rules answer (line_then last after.left) w) (same_some bad) (last, after.left, refl, faults answer last f is.0);
+    }
+bad_rest rules count last TooLong is_full why o faults is full few bad =
+    place_left rules (POSITION_LINES_MAX - count) too_long cause.TooLong why o (λ answer. refl) bad
+bad_rest rules count last NoEol is_full why o faults is full few bad =
+    place_left rules (POSITION_LINES_MAX - count) no_eol cause.NoEol why o (λ answer. refl) bad
+
+pub bad_next : {A I : Type 0} (rules : PositionRules A I) (count : ℕ) (p : PositionLines) (told : Slot → Told) (why : PositionCause)
+    → FaultsUnsplit rules → IsPositionLines p → length p.table ≤ p.taken → count ≤ POSITION_LINES_MAX → cause_behind p.rest (count == POSITION_LINES_MAX) ≡ Some why
+    → BadNext rules (allowed_positions count p told) why
+bad_next rules count p told why faults is taken few bad =
+    subst (λ (o : Option TextLines). BadNext rules (option_map (at_most (POSITION_LINES_MAX - count)) o) why) (sym (none_left p told is taken))
+    (bad_rest rules count p.lines.last_bytes p.rest (count == POSITION_LINES_MAX) why (coming p.lines told) faults is.reading.rest refl few bad)
+
+-- at the end nothing is to come
+pub none_next : (count : ℕ) (p : PositionLines) (told : Slot → Told) → IsPositionLines p → length p.table ≤ p.taken → p.rest ≡ End
+    → IfSome (allowed_positions count p told) (λ lines. lines ≡ ended at_end)
+none_next count p told is taken end =
+    allowed_ended (POSITION_LINES_MAX - count) at_end (lines_coming p told)
+    (subst (λ (o : Option TextLines). IfSome o (λ r. r ≡ ended at_end)) (sym (none_left p told is taken ∙ ap (λ (r : Rest). option_map (behind p.lines.last_bytes r) (coming p.lines told)) end))
+    (always (coming p.lines told)))
+  where
+    always : (o : Option TextLines) → IfSome (option_map (behind p.lines.last_bytes End) o) (λ r. r ≡ ended at_end)
+    always None = tt
+    always (Some text) = refl
 
 -- the lines that are to come to a new reader are all of them
-pub allowed_all : (count : ℕ) (reader : ReaderState) (told : Slot → Told) → count ≡ 0
-    → reader ≡ record { slot = Side; limit = POSITION_LINE_LEN_MAX; waiting = []; number = 0; is_ended = false; last = None; last_bytes = [] }
-    → allowed_positions count reader told ≡ positions_told told
-allowed_all count reader told zero is =
-    ap (λ (n : ℕ). allowed_positions n reader told) zero
-    ∙ ap (λ (r : ReaderState). allowed_positions 0 r told) is
+pub allowed_all : (count : ℕ) (p : PositionLines) (told : Slot → Told) → count ≡ 0 → IsFreshLines p → allowed_positions count p told ≡ positions_told told
+allowed_all count p told zero is =
+    ap (λ (n : ℕ). allowed_positions n p told) zero
+    ∙ ap (λ (o : Option TextLines). option_map (at_most POSITION_LINES_MAX) o) (fresh_coming p told is)
+    ∙ ap (λ (r : ReaderState). option_map (at_most POSITION_LINES_MAX) (coming r told)) is.lines
     ∙ ap (λ left. option_map (at_most POSITION_LINES_MAX) (option_map (lines_of POSITION_LINE_LEN_MAX) left)) (nothing_waits (told Side).left)
     ∙ sym (twice (lines_of POSITION_LINE_LEN_MAX) (at_most POSITION_LINES_MAX) (told Side).left)
-
-pub fresh_reader : (reader : ReaderState) → reader ≡ record { slot = Side; limit = POSITION_LINE_LEN_MAX; waiting = []; number = 0; is_ended = false; last = None; last_bytes = [] }
-    → IsReader Side POSITION_LINE_LEN_MAX reader
-fresh_reader reader is = record { slot_is = ap (λ (r : ReaderState). r.slot) is; limit_is = ap (λ (r : ReaderState). r.limit) is; open_yet = ap (λ (r : ReaderState). r.is_ended) is }
 
 -- the exit of a feed that is not read to its end is one of such a run
 pub stop_exit : {B : Type 0} (StandsFor : B → List Event → Type 0) (feed : Option Reading) (reader : FeedReader B) (told : Slot → Told) (why : FeedStop)
@@ -505,10 +587,9 @@ stop_exit StandsFor feed reader told stop.Device reads = tt
 stop_exit StandsFor feed reader told stop.NoMemory reads = tt
 
 -- the positions of a run whose opening was answered are all to come
-pub starts_open : {A I S : Type 0} (rules : PositionRules A I) (StandsAt : S → A → List I → Type 0) (before now : Slot → Told) (run : PositionRun S) (reader : ReaderState)
-    → HasOpened rules StandsAt (feed_told before) before run now → now Side ≡ before Side
-    → reader ≡ record { slot = Side; limit = POSITION_LINE_LEN_MAX; waiting = []; number = 0; is_ended = false; last = None; last_bytes = [] }
-    → IsSettling rules StandsAt (feed_told before) (positions_told before) before run now (allowed_positions run.count reader now)
-starts_open rules StandsAt before now run reader opened same is =
-    starts rules StandsAt (feed_told before) (positions_told before) before run now (allowed_positions run.count reader now) opened
-    (allowed_all run.count reader now opened.count is ∙ ap (λ (t : Told). option_map positions_of t.left) same)
+pub starts_open : {A I S : Type 0} (rules : PositionRules A I) (StandsAt : S → A → List I → Type 0) (before now : Slot → Told) (run : PositionRun S) (p : PositionLines)
+    → HasOpened rules StandsAt (feed_told before) before run now → now Side ≡ before Side → IsFreshLines p
+    → IsSettling rules StandsAt (feed_told before) (positions_told before) before run now (allowed_positions run.count p now)
+starts_open rules StandsAt before now run p opened same is =
+    starts rules StandsAt (feed_told before) (positions_told before) before run now (allowed_positions run.count p now) opened
+    (allowed_all run.count p now opened.count is ∙ ap (λ (t : Told). option_map positions_of t.left) same)

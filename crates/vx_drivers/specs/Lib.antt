@@ -8,6 +8,7 @@ pub mod CertificateSteps
 pub mod Exits
 pub mod PositionExits
 pub mod PositionLaws
+pub mod PositionLines
 pub mod PositionRun
 pub mod PositionSteps
 pub mod Sending

@@ -26,6 +26,11 @@ pub record PositionRules (A I : Type 0) : Type 1 where
   pub item_line : ℕ → I → Text
   pub last_lines : A → List I → Text
 
+-- what a line comes to by its fields, unless it cannot be split
+abbrev pub said_unless : {I : Type 0} → Option PositionFault → Result I PositionFault → Result I PositionFault
+said_unless None said = said
+said_unless (Some fault) said = Err fault
+
 -- the lines of a file of positions
 abbrev pub positions_of : List ℕ → TextLines
 positions_of text = at_most POSITION_LINES_MAX (lines_of POSITION_LINE_LEN_MAX text)

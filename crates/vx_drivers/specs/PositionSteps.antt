@@ -6,8 +6,6 @@ use Rattle.vx_lines.specs.TextLines.{TextLines, at_end, at_most, ended, lines_th
 use Rattle.vx_desk.specs.declared.device.Slot.{Slot}
 use Rattle.vx_desk.specs.declared.device.Slot.TheVariants.{Side, Out, Certs}
 use Rattle.vx_desk.specs.Told.{Told}
-use Rattle.vx_desk.specs.Lines.{ReaderState}
-use Rattle.vx_desk.specs.Coming.{coming}
 use Rattle.vx_num.specs.declared.fault.NoMemory.{NoMemory}
 use Rattle.vx_feed.specs.declared.events.Event.{Event}
 use Rattle.vx_feed.specs.Feed.{Reading}
@@ -18,10 +16,12 @@ use Rattle.vx_drivers.specs.declared.exit.Exit.{Exit}
 use Rattle.vx_drivers.specs.declared.exit.Exit.TheVariants.{BadPositions}
 use Rattle.vx_drivers.specs.declared.exit.PositionCause.TheVariants.{Fault}
 use Rattle.vx_drivers.specs.declared.limits.TheConstants.{POSITION_LINES_MAX}
+use Rattle.vx_drivers.specs.declared.position_lines.PositionLines.{PositionLines}
 use Rattle.vx_drivers.specs.declared.position_run.PositionRun.{PositionRun}
 use Rattle.vx_drivers.specs.Along.{Along}
 use Rattle.vx_drivers.specs.Exits.{is_cut}
 use Rattle.vx_drivers.specs.PositionExits.{IsLineFault}
+use Rattle.vx_drivers.specs.PositionLines.{lines_coming}
 use Rattle.vx_drivers.specs.PositionRun.{PositionRules, RunsPositionsBy, Settles, positions_of, settled_text}
 use Rattle.vx_drivers.specs.Sending.{CutsOff, Sent, Text}
 
@@ -30,8 +30,8 @@ abbrev pub positions_told : (Slot → Told) → Option TextLines
 positions_told told = option_map positions_of (told Side).left
 
 -- the lines that are to come, as many as there may be after so many
-abbrev pub allowed_positions : ℕ → ReaderState → (Slot → Told) → Option TextLines
-allowed_positions count reader told = option_map (at_most (POSITION_LINES_MAX - count)) (coming reader told)
+abbrev pub allowed_positions : ℕ → PositionLines → (Slot → Told) → Option TextLines
+allowed_positions count positions told = option_map (at_most (POSITION_LINES_MAX - count)) (lines_coming positions told)
 
 -- ---- what answers
 

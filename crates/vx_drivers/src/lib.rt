@@ -10,6 +10,7 @@ mod laws;
 pub mod limits;
 mod output;
 mod position_laws;
+mod position_lines;
 mod position_run;
 #[cfg(test)]
 mod position_tests;

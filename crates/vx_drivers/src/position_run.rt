@@ -1,20 +1,23 @@
 //! The way by positions: the feed is read to its end and its opening answered; then each line of positions is
-//! settled before the next one is read, and the last lines are sent behind the positions' end.
+//! settled before the device is asked for bytes behind it, and the last lines are sent behind the positions' end.
 
-ghost use Rattle.std.specs.Prelude.{◌≡◌, ◌+◌, ◌≤◌, [], IfErr, IsTrue};
+ghost use Rattle.std.specs.Prelude.{◌≡◌, ◌==◌, ◌+◌, ◌≤◌, [], IfErr, IsTrue};
 ghost use Rattle.vx_reading.specs.Failures.{IsStep};
 ghost use Rattle.vx_reading.specs.FeedReading.{feed_told};
 ghost use Rattle.vx_drivers.specs.Exits.{calls_in, exit_calls};
 ghost use Rattle.vx_drivers.specs.PositionExits.{IsPositionExit};
+ghost use Rattle.vx_drivers.specs.PositionLines.{bad_behind as cause_behind};
 ghost use Rattle.vx_drivers.specs.PositionSteps.{HasEndedPositions, OpensRun, positions_told};
 
 use crate::devices::send_line;
 use crate::exit::{Exit, PositionCause};
-use crate::limits::{POSITION_LINE_LEN_MAX, POSITION_LINES_MAX};
+use crate::limits::POSITION_LINES_MAX;
+use crate::position_lines::{PositionLines, Rest};
 use crate::positions::{AnswersOpening, SettlesPositions};
 use crate::tick_output::send_both;
 use std::alloc::Global;
-use vx_desk::{Desk, LineReader, ReadFault, Slot};
+use vx_desk::{Desk, Slot};
+use vx_fields::Fields;
 use vx_num::NoMemory;
 use vx_reading::{FeedReader, TakesEvents};
 
@@ -40,9 +43,27 @@ fn bad_line(count: u64, cause: PositionCause) -> Exit
     }
 }
 
+/// Why the line behind those that were split is bad, after so many lines; `None` at the end.
+fn bad_behind(rest: Rest, count: u64) -> Option<PositionCause>
+    ensures { result ≡ cause_behind rest (count == POSITION_LINES_MAX) }
+{
+    match rest {
+        Rest::Unsplit(fault) => {
+            if count == POSITION_LINES_MAX {
+                Some(PositionCause::TooMany)
+            } else {
+                Some(PositionCause::Fault(fault))
+            }
+        }
+        Rest::TooLong => Some(PositionCause::TooLong),
+        Rest::NoEol => Some(PositionCause::NoEol),
+        Rest::More | Rest::End => None,
+    }
+}
+
 impl<S: SettlesPositions> PositionRun<S> {
-    ghost use Rattle.std.specs.Prelude.{◌≡◌, ◌<◌, ◌+◌, ◌≤◌, List, [], IsTrue, IfErr, IfOk, OnOk};
-    ghost use Rattle.vx_desk.specs.Coming.{IsReader};
+    ghost use Rattle.std.specs.Prelude.{◌≡◌, ◌<◌, ◌+◌, ◌≤◌, ℕ, List, [], IsTrue, IfErr, IfOk, OnOk};
+    ghost use Rattle.vx_drivers.specs.PositionLines.{IsPositionLines, IsSplit};
     ghost use Rattle.vx_desk.specs.Told.{ChangesOnly};
     ghost use Rattle.vx_reading.specs.Failures.{IsStep};
     ghost use Rattle.vx_drivers.specs.Exits.{calls_in, exit_calls};
@@ -50,12 +71,13 @@ impl<S: SettlesPositions> PositionRun<S> {
     ghost use Rattle.vx_drivers.specs.PositionSteps.{EndsPositionRun, GoesOnePosition, GoesToLastPosition, HasItems};
     ghost use Rattle.vx_drivers.specs.PositionSteps.{MayEndPositions, MaySettle, SettlesOne, allowed_positions};
 
-    /// Settles one more line.
-    fn settle_line<D: Desk>(&mut self, desk: &mut D, text: &[u8]) -> Result<(), Exit>
+    /// Settles one more line, which was split into its fields.
+    fn settle_line<D: Desk>(&mut self, desk: &mut D, fields: &Fields<'_>) -> Result<(), Exit>
         requires items { HasItems S.StandsAt self.old.sheet self.old.count }
         requires few { self.old.count < POSITION_LINES_MAX }
+        requires split { (text : List ℕ) × IsSplit text fields.now }
         requires out { IsTrue (D.told desk.old Slot.Out).is_open }
-        ensures settles { SettlesOne S.rules S.StandsAt self.old text.now self.new
+        ensures settles { (text : List ℕ) → IsSplit text fields.now → SettlesOne S.rules S.StandsAt self.old text self.new
             (D.told desk.old Slot.Out) (D.told desk.new Slot.Out) result }
         ensures lines { OnOk result (self.new.count ≡ self.old.count + 1) }
         ensures exits { IfErr result IsPositionExit }
@@ -63,7 +85,7 @@ impl<S: SettlesPositions> PositionRun<S> {
         ensures others { ChangesOnly Slot.Out (D.told desk.old) (D.told desk.new) }
     {
         self.line.clear();
-        match self.sheet.settle(self.count, text, &mut self.line) {
+        match self.sheet.settle(self.count, fields, &mut self.line) {
             Ok(None) => {}
             Ok(Some(fault)) => return Err(bad_line(self.count, PositionCause::Fault(fault))),
             Err(NoMemory) => return Err(Exit::NoMemory),
@@ -76,48 +98,54 @@ impl<S: SettlesPositions> PositionRun<S> {
     fn settle_next<D: Desk>(
         &mut self,
         desk: &mut D,
-        positions: &mut LineReader,
+        positions: &mut PositionLines,
     ) -> Result<bool, Exit>
         requires may { MaySettle S.rules S.StandsAt self.old (D.told desk.old)
             (allowed_positions self.old.count positions.old (D.told desk.old)) }
-        requires reader { IsReader Slot.Side POSITION_LINE_LEN_MAX positions.old }
+        requires lines { IsPositionLines positions.old }
         requires few { self.old.count ≤ POSITION_LINES_MAX }
         requires side { IsTrue (D.told desk.old Slot.Side).is_open }
         requires out { IsTrue (D.told desk.old Slot.Out).is_open }
         ensures goes { GoesOnePosition S.rules S.StandsAt self.old (D.told desk.old)
             (allowed_positions self.old.count positions.old (D.told desk.old)) self.new (D.told desk.new)
             (allowed_positions self.new.count positions.new (D.told desk.new)) result }
-        ensures reader { OnOk result (IsReader Slot.Side POSITION_LINE_LEN_MAX positions.new) }
+        ensures reads { OnOk result (IsPositionLines positions.new) }
         ensures lines { IfOk result (λ more. IsTrue more → self.new.count ≡ self.old.count + 1) }
         ensures few { OnOk result (self.new.count ≤ POSITION_LINES_MAX) }
         ensures exits { IfErr result IsPositionExit }
         ensures step { IsStep (calls_in result) (D.told desk.old) (D.told desk.new) }
     {
-        let line = match positions.next(desk) {
-            Ok(Some(line)) => line,
-            Ok(None) => return Ok(false),
-            Err(ReadFault::LineTooLong { .. }) => {
-                return Err(bad_line(self.count, PositionCause::TooLong));
-            }
-            Err(ReadFault::NoEol { .. }) => {
-                return Err(bad_line(self.count, PositionCause::NoEol));
-            }
-            Err(ReadFault::Device) => return Err(Exit::ReadFault { slot: Slot::Side }),
-        };
+        match positions.read_on(desk) {
+            Ok(()) => {}
+            Err(exit) => return Err(exit),
+        }
+        if !positions.has_line() {
+            return match bad_behind(positions.rest(), self.count) {
+                None => Ok(false),
+                Some(cause) => Err(bad_line(self.count, cause)),
+            };
+        }
         if self.count == POSITION_LINES_MAX {
             return Err(bad_line(self.count, PositionCause::TooMany));
         }
-        match self.settle_line(desk, positions.bytes(&line)) {
-            Ok(()) => Ok(true),
+        match self.settle_line(desk, &positions.fields()) {
+            Ok(()) => {
+                positions.take();
+                Ok(true)
+            }
             Err(exit) => Err(exit),
         }
     }
 
     /// Settles each line.
-    fn settle_all<D: Desk>(&mut self, desk: &mut D, positions: &mut LineReader) -> Result<(), Exit>
+    fn settle_all<D: Desk>(
+        &mut self,
+        desk: &mut D,
+        positions: &mut PositionLines,
+    ) -> Result<(), Exit>
         requires may { MaySettle S.rules S.StandsAt self.old (D.told desk.old)
             (allowed_positions self.old.count positions.old (D.told desk.old)) }
-        requires reader { IsReader Slot.Side POSITION_LINE_LEN_MAX positions.old }
+        requires lines { IsPositionLines positions.old }
         requires few { self.old.count ≤ POSITION_LINES_MAX }
         requires side { IsTrue (D.told desk.old Slot.Side).is_open }
         requires out { IsTrue (D.told desk.old Slot.Out).is_open }
@@ -199,7 +227,7 @@ fn open_run<B: AnswersOpening, D: Desk>(
 /// slots are open.
 ///
 /// Nothing is sent before the feed is read to its end. The opening's certificate is sent whole before
-/// anything of its line, and each line of positions is answered before the next one is read.
+/// anything of its line, and each line of positions is answered before the device is asked for bytes behind it.
 pub fn settle_positions<B: AnswersOpening, D: Desk>(alloc: Global, book: B, desk: &mut D) -> Exit
     requires book { B.StandsFor book [] }
     requires feed { IsTrue (D.told desk.old Slot.Feed).is_open }
@@ -211,7 +239,7 @@ pub fn settle_positions<B: AnswersOpening, D: Desk>(alloc: Global, book: B, desk
     ensures exits { IsPositionExit result }
     ensures step { IsStep (exit_calls result) (D.told desk.old) (D.told desk.new) }
 {
-    let mut positions = match LineReader::new(alloc, Slot::Side, POSITION_LINE_LEN_MAX) {
+    let mut positions = match PositionLines::new(alloc) {
         Ok(positions) => positions,
         Err(NoMemory) => return Exit::NoMemory,
     };

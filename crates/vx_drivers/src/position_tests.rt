@@ -1,10 +1,12 @@
 //! Runs by positions over what answers the opening with how many lines the feed has, and says of each line of
-//! positions how many bytes it has.
+//! positions how many fields it has.
 
-ghost use Rattle.std.proofs.Common.{sym, ◌∙◌};
-ghost use Rattle.std.specs.Prelude.{◌≡◌, ◌≤◌, ◌==◌, ◌∷◌, ◌++◌, ℕ, [], length, Err, Ok, if◌then◌else◌};
+ghost use Rattle.std.proofs.Common.{sym, ap, ◌∙◌};
+ghost use Rattle.std.specs.Prelude.{◌≡◌, ◌≤◌, ◌∷◌, ◌++◌, ℕ, [], length, Ok};
+ghost use Rattle.vx_drivers.specs.PositionRun.{said_unless};
+ghost use Rattle.vx_fields.specs.Lines.{fields_of_line};
+ghost use Rattle.vx_settle.specs.Form.{unsplit_fault};
 ghost use Rattle.vx_num.specs.Written.{decimal_text};
-ghost use Rattle.vx_settle.specs.declared.fault.PositionFault.TheVariants.{Fields};
 
 use crate::text::{push_number, push_text};
 use crate::{
@@ -16,6 +18,7 @@ use std::process::Abort;
 use std::test::Fail;
 use vx_desk::{Desk, MemDesk, Slot};
 use vx_feed::{Event, FeedFault};
+use vx_fields::Fields;
 use vx_num::NoMemory;
 use vx_settle::PositionFault;
 
@@ -39,33 +42,33 @@ impl TakesEvents for FeedLines {
 }
 
 impl AnswersOpening for FeedLines {
-    type Sheet = LineLengths;
+    type Sheet = FieldCounts;
 
     fn answer_opening(
         &self,
         certificate: &mut Vec<u8>,
         line: &mut Vec<u8>,
-    ) -> Result<LineLengths, NoMemory> {
+    ) -> Result<FieldCounts, NoMemory> {
         push_text(certificate, "c")?;
         push_number(self.alloc, certificate, self.lines)?;
         push_text(certificate, "\n")?;
         push_number(self.alloc, line, self.lines)?;
         push_text(line, "\n")?;
-        Ok(LineLengths {
+        Ok(FieldCounts {
             alloc: self.alloc,
             feed_lines: self.lines,
         })
     }
 }
 
-/// Takes a line that is not empty for a position.
+/// Takes each line that can be split for a position.
 #[derive(Drop)]
-struct LineLengths {
+struct FieldCounts {
     alloc: Global,
     feed_lines: u64,
 }
 
-impl SettlesPositions for LineLengths {
+impl SettlesPositions for FieldCounts {
     ghost Answer = { ℕ };
 
     ghost Item = { ℕ };
@@ -74,7 +77,7 @@ impl SettlesPositions for LineLengths {
       IsOpening = λ events answer. answer ≡ length events;
       certificate = λ answer. 99 ∷ decimal_text answer 0 ++ 10 ∷ [];
       line = λ answer. decimal_text answer 0 ++ 10 ∷ [];
-      ComesTo = λ answer text said. said ≡ (if length text == 0 then Err Fields else Ok (length text));
+      ComesTo = λ answer text said. said ≡ said_unless (unsplit_fault text) (Ok (length (fields_of_line text)));
       item_line = λ number item. decimal_text number 0 ++ 44 ∷ decimal_text item 0 ++ 10 ∷ [];
       last_lines = λ answer items. 61 ∷ decimal_text (length items) 0 ++ 10 ∷ [];
     } };
@@ -84,15 +87,12 @@ impl SettlesPositions for LineLengths {
     fn settle(
         &mut self,
         count: u64,
-        text: &[u8],
+        fields: &Fields<'_>,
         line: &mut Vec<u8>,
     ) -> Result<Option<PositionFault>, NoMemory> {
-        if text.is_empty() {
-            return Ok(Some(PositionFault::Fields));
-        }
         push_number(self.alloc, line, count + 1)?;
         push_text(line, ",")?;
-        push_number(self.alloc, line, text.len() as u64)?;
+        push_number(self.alloc, line, fields.len() as u64)?;
         push_text(line, "\n")?;
         Ok(None)
     }
@@ -102,6 +102,8 @@ impl SettlesPositions for LineLengths {
         push_number(self.alloc, line, count)?;
         push_text(line, "\n")
     }
+
+    ghost none_unsplit = { λ answer text fault is. ap (λ why. said_unless why (Ok (length (fields_of_line text)))) (sym is) };
 
     ghost opens_one = { λ events a b h k. h ∙ sym k };
 
@@ -121,7 +123,7 @@ struct Case {
 
 const FEED: &str = "H,1,2014-09-17\nV,08:30\nEND,1\n";
 
-const POSITIONS: &str = "abc\nd\n";
+const POSITIONS: &str = "a,b,c\nd\n";
 
 fn expect_run(rt: &impl Abort, alloc: Global, most: usize, case: &Case) -> Result<(), Fail>
     requires { 1 ≤ most }
@@ -133,7 +135,7 @@ fn expect_run(rt: &impl Abort, alloc: Global, most: usize, case: &Case) -> Resul
     desk.open(Slot::Feed, "feed")?;
     desk.open(Slot::Side, "positions")?;
     desk.open(Slot::Certs, "certs")?;
-    position_run_is_one(&LineLengths {
+    position_run_is_one(&FieldCounts {
         alloc,
         feed_lines: 0,
     });
@@ -194,7 +196,7 @@ fn stops_at_a_bad_line(rt: HostRuntime) -> Result<(), Fail> {
     expect_run(&rt, rt.alloc(), 1000, &bad_feed)?;
     let bad_position = Case {
         feed: FEED,
-        positions: "abc\n\nd",
+        positions: "a,b,c\n\nd",
         fails: &[],
         exit: Exit::BadPositions {
             line: 2,
@@ -206,7 +208,7 @@ fn stops_at_a_bad_line(rt: HostRuntime) -> Result<(), Fail> {
     expect_run(&rt, rt.alloc(), 1000, &bad_position)?;
     let no_line_feed = Case {
         feed: FEED,
-        positions: "abc\nd",
+        positions: "a,b,c\nd",
         fails: &[],
         exit: Exit::BadPositions {
             line: 2,

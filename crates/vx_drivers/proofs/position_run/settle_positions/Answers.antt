@@ -1,6 +1,4 @@
-use Rattle.std.proofs.Common.{◌≡◌, ◌∙◌, sym, ap, refl, None}
-use Rattle.vx_desk.specs.declared.device.Slot.TheVariants.{Side}
-use Rattle.vx_desk.specs.Told.{Told}
+use Rattle.std.proofs.Common.{refl, None}
 use Rattle.vx_reading.specs.FeedReading.{feed_told}
 use Rattle.vx_reading.proofs.FailureLemmas.{step_after}
 use Rattle.vx_drivers.specs.declared.exit.Exit.TheVariants.{NoMemory}

@@ -1,4 +1,4 @@
-use Rattle.std.proofs.Common.{◌≡◌, subst, Bool, false, Ok}
+use Rattle.std.proofs.Common.{subst, Bool, Ok}
 use Rattle.vx_reading.proofs.FailureLemmas.{step_after}
 use Rattle.vx_drivers.specs.Exits.{exit_calls}
 use Rattle.vx_drivers.specs.PositionSteps.{GoesOnPositions, allowed_positions}

@@ -1,12 +1,12 @@
-use Rattle.std.proofs.Common.{◌≡◌, ◌-◌, ◌≤◌, Option, None, IsTrue}
+use Rattle.std.proofs.Common.{◌-◌, ◌≤◌, Option, None, IsTrue}
 use Rattle.vx_desk.specs.declared.device.Slot.{Slot}
 use Rattle.vx_desk.specs.declared.device.Slot.TheVariants.{Side, Out}
-use Rattle.vx_desk.specs.Coming.{IsReader}
 use Rattle.vx_desk.specs.Told.{Told}
 use Rattle.vx_feed.specs.Feed.{Reading}
 use Rattle.vx_lines.specs.TextLines.{TextLines}
 use Rattle.vx_reading.specs.Failures.{IsStep}
-use Rattle.vx_drivers.specs.declared.limits.TheConstants.{POSITION_LINES_MAX, POSITION_LINE_LEN_MAX}
+use Rattle.vx_drivers.specs.declared.limits.TheConstants.{POSITION_LINES_MAX}
+use Rattle.vx_drivers.specs.PositionLines.{IsPositionLines}
 use Rattle.vx_drivers.specs.PositionSteps.{IsSettling, MaySettle, allowed_positions}
 use Rattle.vx_drivers.proofs.position_run.PositionRun.settle_all.Given as goal
 
@@ -19,7 +19,7 @@ invariant-lines g l = record {
       (allowed_positions l.self.count l.positions (g.D.Desk.told l.desk));
   may : MaySettle g.S.SettlesPositions.rules g.S.SettlesPositions.StandsAt l.self (g.D.Desk.told l.desk)
       (allowed_positions l.self.count l.positions (g.D.Desk.told l.desk));
-  reader : IsReader Side POSITION_LINE_LEN_MAX l.positions;
+  lines : IsPositionLines l.positions;
   few : l.self.count ≤ POSITION_LINES_MAX;
   side : IsTrue (g.D.Desk.told l.desk Side).is_open;
   out : IsTrue (g.D.Desk.told l.desk Out).is_open;
