@@ -19,13 +19,13 @@ after_all : (events : List Event) (e : Event) → slice_get (events ++ e ∷ [])
 after_all [] e = refl
 after_all (x ∷ xs) e = after_all xs e
 
-at_last : (events : List Event) (e : Event) → event_at (events ++ e ∷ []) (length (events ++ e ∷ [])) ≡ Some e
+pub at_last : (events : List Event) (e : Event) → event_at (events ++ e ∷ []) (length (events ++ e ∷ [])) ≡ Some e
 at_last events e =
     let more : length (events ++ e ∷ []) ≡ length events + 1 = length-append events (e ∷ []) in
     let one_less : length (events ++ e ∷ []) - 1 ≡ length events = omega (arith, more) in
     ap (λ (n : ℕ). slice_get (events ++ e ∷ []) n) one_less ∙ after_all events e
 
-abbrev minute_at : Option Event → Option ℕ
+abbrev pub minute_at : Option Event → Option ℕ
 minute_at (Some e) = minute_of_tick e
 minute_at None = None
 

@@ -60,11 +60,11 @@ answer_kept days window events more line time answer h =
 -- ---- the ticks of one line more
 
 -- the tick of a line, where its event has a minute
-abbrev tick_at : ℕ → Option ℕ → List Tick
+abbrev pub tick_at : ℕ → Option ℕ → List Tick
 tick_at line None = []
 tick_at line (Some time) = record { line = line; time = time } ∷ []
 
-first_tick : (line : ℕ) (e : Event) (events : List Event) → ticks_from line (e ∷ events) ≡ tick_at line (minute_of_tick e) ++ ticks_from (line + 1) events
+pub first_tick : (line : ℕ) (e : Event) (events : List Event) → ticks_from line (e ∷ events) ≡ tick_at line (minute_of_tick e) ++ ticks_from (line + 1) events
 first_tick line (event.Tick time) events = refl
 first_tick line (event.Header day) events = refl
 first_tick line (event.Expiry x) events = refl
@@ -75,7 +75,7 @@ first_tick line (event.Trade time s price) events = refl
 first_tick line (event.Opening time) events = refl
 first_tick line (event.End count) events = refl
 
-last_tick : (line : ℕ) (events : List Event) (e : Event) → ticks_from line (events ++ e ∷ []) ≡ ticks_from line events ++ tick_at (line + length events) (minute_of_tick e)
+pub last_tick : (line : ℕ) (events : List Event) (e : Event) → ticks_from line (events ++ e ∷ []) ≡ ticks_from line events ++ tick_at (line + length events) (minute_of_tick e)
 last_tick line [] e = first_tick line e [] ∙ append-nil (tick_at line (minute_of_tick e)) ∙ ap (λ (n : ℕ). tick_at n (minute_of_tick e)) (sym (add-zero line))
 last_tick line (d ∷ events) e =
     let later : (line + 1) + length events ≡ line + length (d ∷ events) = omega arith in

@@ -5,6 +5,8 @@ pub mod CheckRuns
 pub mod ExitText
 pub mod DrillRuns
 pub mod DrillText
+pub mod Headline
+pub mod LawfulExits
 pub mod Laws
 pub mod Operands
 pub mod OutputLines

@@ -4,6 +4,8 @@ ghost use Rattle.std.specs.Prelude.{◌≡◌, ◌⊎◌, IfSome, IsNone, map, s
 ghost use Rattle.vx_desk.specs.Told.{OnlyOutIsOpen};
 ghost use Rattle.vx_reading.specs.Failures.{Failures};
 ghost use Rattle.vx_drivers.specs.Exits.{IsWithoutNoMemory, exit_calls};
+ghost use Rattle.vx_cli.specs.Headline.{Headline};
+ghost use Rattle.vx_cli.specs.LawfulExits.{CountsNoFailure, EndsLawfully};
 ghost use Rattle.vx_cli.specs.Runs.{IsExitOf, OpensFor, SendsFor};
 ghost use Rattle.vx_cli.specs.Words.{command_of};
 
@@ -38,6 +40,12 @@ pub fn run<D: Desk>(alloc: Global, words: &[String], desk: &mut D) -> Exit
     // send nothing.
     ensures sends { SendsFor (command_of (map string_bytes words.now))
         (D.holds desk.old) (D.told desk.old) (D.told desk.new) result }
+    // What was sent is true: each yes, each line of `replay` and the opening's line of `settle`.
+    ensures headline { Headline (command_of (map string_bytes words.now))
+        (D.holds desk.old) (D.told desk.old) (D.told desk.new) result }
+    // Over lawful input and with no failed call, a run ends for no reason but the certificates of `check` and memory.
+    ensures exits_of_lawful { CountsNoFailure (D.told desk.old) (D.told desk.new)
+        → IfSome (command_of (map string_bytes words.now)) (λ command. EndsLawfully command (D.holds desk.old) result) }
 {
     match read_request(alloc, words) {
         Ok(Some(Request::Replay { feed, certs })) => replay_files(alloc, desk, feed, certs),
