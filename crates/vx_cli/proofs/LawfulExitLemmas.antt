@@ -224,16 +224,3 @@ pub lawful_by : (asked : Command) (command : Option Command) (holds : List ℕ �
     → SendsFor (Some asked) holds before after exit → CountsNoFailure before after → EndsFor command holds exit
 lawful_by asked command holds before after exit same failed is sends none =
     subst (λ (c : Option Command). EndsFor c holds exit) same (ends_lawfully asked holds before after exit failed is sends none)
-
--- words that ask for none have no run
-pub usage_ends : (command : Option Command) (holds : List ℕ → Option (List ℕ)) (exit : Exit) → None ≡ command → EndsFor command holds exit
-usage_ends command holds exit same = subst (λ (c : Option Command). EndsFor c holds exit) same tt
-
--- memory may be wanting before anything is done
-pub memory_ends : (command : Option Command) (holds : List ℕ → Option (List ℕ)) → EndsFor command holds NoMemory
-memory_ends None holds = tt
-memory_ends (Some (replay feed certs)) holds = λ lawful. tt
-memory_ends (Some (check feed certs)) holds = λ lawful there. tt
-memory_ends (Some (settle feed positions certs)) holds = λ lawful are_lawful. tt
-memory_ends (Some (make number ticks)) holds = tt
-memory_ends (Some (drill number ticks)) holds = tt
