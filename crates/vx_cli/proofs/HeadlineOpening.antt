@@ -84,14 +84,14 @@ module _ (feed : Reading) (positions : TextLines) (exit : Exit) (out certs : Tex
       let gives = h.gives in
       record {
         answer = gives.answer.answer;
-        is_true = gives.is_opening.is_lawful;
+        is_true = gives.is_opening.0.is_lawful;
         items = gives.items;
         are_true = items_true gives.answer positions gives.items gives.rest gives.before;
         last = gives.last;
         last_is = last_either gives.last (last_text (figure_of gives.answer.answer) gives.items) gives.last_is;
         begins = (
           h.out_more,
-          ap (λ (t : Text). t ++ gives.last) (sym (at_opening feed.events gives.answer gives.items gives.is_opening)) ∙ sym gives.out_is,
+          ap (λ (t : Text). t ++ gives.last) (sym (at_opening feed.events gives.answer gives.items gives.is_opening.0)) ∙ sym gives.out_is,
         );
         certs_begin = (h.certs_more, sym gives.certs_are);
         on_file = whole_certificate h.certs_more (opening_certificate_text gives.answer.answer) gives.certs_are h.whole;
@@ -120,10 +120,10 @@ module _ (feed : Reading) (positions : TextLines) (exit : Exit) (out certs : Tex
       let a = h.answer in
       let text = last_text (figure_of a.answer) h.items in
       let out_is : out ≡ opened_text feed.events a.answer h.items ++ if_done exit text =
-      h.out_is ∙ ap (λ (t : Text). t ++ if_done exit text) (at_opening feed.events a h.items h.is_opening) in
+      h.out_is ∙ ap (λ (t : Text). t ++ if_done exit text) (at_opening feed.events a h.items h.is_opening.0) in
       record {
         answer = a.answer;
-        is_true = h.is_opening.is_lawful;
+        is_true = h.is_opening.0.is_lawful;
         items = h.items;
         are_true = items_true a positions h.items h.rest h.before;
         last = if_done exit text;

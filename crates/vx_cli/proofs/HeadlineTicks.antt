@@ -127,7 +127,7 @@ module _ (old : TickStand Answered) (e : Event) (h : StandsTrue old) where
 
   step_true : (new : TickStand Answered) → TakesEvent replay_rules old e new → StandsTrue new × (new.events ≡ Next)
   step_true new (said, given, is) =
-      (subst StandsTrue (sym is) (said_more said given), ap (λ (s : TickStand Answered). s.events) is)
+      (subst StandsTrue (sym is) (said_more said given.0), ap (λ (s : TickStand Answered). s.events) is)
 
 -- a run over events
 along_true : (events : List Event) (old new : TickStand Answered) → Along (TakesEvent replay_rules) old events new → StandsTrue old

@@ -21,6 +21,11 @@ mod TextDeskLemmas
 mod SettleLemmas
 mod LineLemmas
 mod SheetLemmas
+-- what `replay` and `settle` wrote is accepted
+mod PublishedMeans
+mod ReplayAccepted
+mod UpToOpening
+mod SettleAccepted
 -- that what was sent is true, and how runs over lawful input end
 mod HeadlineLines
 mod HeadlineChecks

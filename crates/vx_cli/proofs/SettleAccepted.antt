@@ -184,10 +184,10 @@ settled : (feed certs : List ℕ) (positions : List ℕ) (bad : Option BadLine) 
 settled feed certs positions (Some b) exit out is none run = absurd (let no : ⊥ = cc in no)
 settled feed certs positions None exit out is none run = record {
   answer = run.answer;
-  is_opening = run.is_opening;
+  is_opening = run.is_opening.0;
   certs_are = run.certs_are;
   checks = just_checks feed certs (yes_text run.answer)
-      (opening_checks feed certs run.answer.time run.answer.answer none run.is_opening.time_is run.is_opening.is_lawful run.is_opening.is_read run.certs_are);
+      (opening_checks feed certs run.answer.time run.answer.answer none run.is_opening.0.time_is run.is_opening.0.is_lawful run.is_opening.1 run.certs_are);
 }
 
 pub settle_is_accepted : SettleIsAccepted

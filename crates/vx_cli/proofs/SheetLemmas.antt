@@ -29,6 +29,7 @@ use Rattle.vx_drivers.specs.PositionLines.{IsSplit}
 use Rattle.vx_drivers.specs.PositionSteps.{AddsUnless, OpensSheet}
 use Rattle.vx_drivers.specs.Sending.{Text}
 use Rattle.vx_cli.specs.declared.settle.Settlement.{Settlement}
+use Rattle.vx_cli.specs.ReadBack.{OpeningCertificateIsRead}
 use Rattle.vx_cli.specs.SettleRuns.{AnsweredOpening, SettlesTo, settle_rules}
 use Rattle.vx_cli.specs.SettleSheet.{HasSettledOn}
 use Rattle.vx_cli.specs.SettleText.{Settled, amounts_of, figure_of, opening_certificate_text, opening_clock, opening_text, position_text}
@@ -170,7 +171,7 @@ pub sheet_opened : (events : List Event) (answer : OpeningAnswer) (time : Option
     → OpensSheet settle_rules HasSettledOn events certificate line sheet
 sheet_opened events answer time certificate line sheet time_is is_answer lawful written read certificate_is line_is figure_is zero = record {
   answer = record { time = time; answer = answer };
-  is_opening = record { time_is = time_is; is_answer = is_answer; is_lawful = lawful; is_read = read };
+  is_opening = (record { time_is = time_is; is_answer = is_answer; is_lawful = lawful }, read);
   certificate_is = certificate_is;
   line_is = line_is;
   stands = record {

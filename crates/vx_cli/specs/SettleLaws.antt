@@ -7,15 +7,19 @@ use Rattle.vx_settle.specs.declared.fault.PositionFault.{PositionFault}
 use Rattle.vx_settle.specs.Form.{position_of_line, position_unless, unsplit_fault}
 use Rattle.vx_settle.proofs.Amounts.{amount_is_one}
 use Rattle.vx_soq.proofs.OpeningAnswerIsOne.{opening_answer_is_one}
-use Rattle.vx_cli.specs.SettleRuns.{AnsweredOpening, IsAnsweredOpening, LineComesTo, SettlesTo}
+use Rattle.vx_cli.specs.SettleRuns.{AnsweredOpening, IsAnsweredOpening, IsWrittenOpening, LineComesTo, SettlesTo}
 use Rattle.vx_cli.specs.SettleText.{Settled, figure_of}
 
-pub opening_is_one : (events : List Event) (a b : AnsweredOpening)
+answers_one : (events : List Event) (a b : AnsweredOpening)
     → IsAnsweredOpening events a → IsAnsweredOpening events b → a ≡ b
-opening_is_one events a b h k =
+answers_one events a b h k =
     let times : a.time ≡ b.time = h.time_is ∙ sym k.time_is in
     let answers : a.answer ≡ b.answer = opening_answer_is_one events a.answer b.answer h.is_answer k.is_answer in
     λ i. record { time = times i; answer = answers i }
+
+pub opening_is_one : (events : List Event) (a b : AnsweredOpening)
+    → IsWrittenOpening events a → IsWrittenOpening events b → a ≡ b
+opening_is_one events a b h k = answers_one events a b h.0 k.0
 
 settled_one : (figure : Option ℕ) (p : Position) (a b : Option Settled)
     → SettlesTo figure p a → SettlesTo figure p b → a ≡ b

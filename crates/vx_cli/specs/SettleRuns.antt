@@ -21,13 +21,15 @@ pub record AnsweredOpening : Type 0 where
   pub time : Option ℕ
   pub answer : OpeningAnswer
 
--- this is the opening of the events, and its answer: that of the opening figure, and a lawful one, whose certificate, where it has one,
--- is read back from the line that is written
+-- this is the opening of the events, and its answer: that of the opening figure, and a lawful one
 pub record IsAnsweredOpening (events : List Event) (a : AnsweredOpening) : Type 0 where
   pub time_is : a.time ≡ opening_time events
   pub is_answer : IsOpeningAnswer events a.answer
   pub is_lawful : IsLawfulOpening events a.answer
-  pub is_read : OpeningCertificateIsRead a.answer
+
+-- and the answer's certificate, where it has one, is read back from the line that is written
+abbrev pub IsWrittenOpening : List Event → AnsweredOpening → Type 0
+IsWrittenOpening events a = IsAnsweredOpening events a × OpeningCertificateIsRead a.answer
 
 -- what a position settles to at a figure: its amount, or nothing without a figure
 abbrev pub SettlesTo : Option ℕ → Position → Option Settled → Type 0
@@ -43,7 +45,7 @@ LineComesTo figure line (Err fault) = position_of_line line ≡ Err fault
 -- what `settle` makes of a feed's events and of lines of positions
 abbrev pub settle_rules : PositionRules AnsweredOpening (Option Settled)
 settle_rules = record {
-  IsOpening = IsAnsweredOpening;
+  IsOpening = IsWrittenOpening;
   certificate = λ a. opening_certificate_text a.answer;
   line = λ a. opening_text (opening_clock a.time) a.answer;
   ComesTo = λ a line. LineComesTo (figure_of a.answer) line;

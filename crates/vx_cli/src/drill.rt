@@ -97,9 +97,10 @@ impl CountedReplay {
 
     /// Takes up an event, and counts what it is answered.
     fn step(&mut self, event: Event) -> Result<(), NoMemory>
-        requires lawful { (events : List Event) × HasCountedAlong self.old.replay self.old.counts events × IsLawfulNext events event }
-        ensures taken { (events : List Event) → HasCountedAlong self.old.replay self.old.counts events → IsLawfulNext events event
-            → OnOk result (HasCountedAlong self.new.replay self.new.counts (events ++ event ∷ [])) }
+        requires lawful { (events : List Event) × HasCountedAlong self.old.replay self.old.counts events
+            × IsLawfulNext events event }
+        ensures taken { (events : List Event) → HasCountedAlong self.old.replay self.old.counts events
+            → IsLawfulNext events event → OnOk result (HasCountedAlong self.new.replay self.new.counts (events ++ event ∷ [])) }
         ensures kept { (events : List Event) → HasCountedAlong self.old.replay self.old.counts events
             → OnErr result (HasCountedAlong self.new.replay self.new.counts events) }
     {
@@ -110,10 +111,11 @@ impl CountedReplay {
 
     /// Takes up an event that is no tick. An answer is large, and none is made here.
     fn take_up(&mut self, event: Event) -> Result<(), NoMemory>
-        requires lawful { (events : List Event) × HasCountedAlong self.old.replay self.old.counts events × IsLawfulNext events event }
+        requires lawful { (events : List Event) × HasCountedAlong self.old.replay self.old.counts events
+            × IsLawfulNext events event }
         requires no_tick { minute_of_tick event ≡ None }
-        ensures taken { (events : List Event) → HasCountedAlong self.old.replay self.old.counts events → IsLawfulNext events event
-            → OnOk result (HasCountedAlong self.new.replay self.new.counts (events ++ event ∷ [])) }
+        ensures taken { (events : List Event) → HasCountedAlong self.old.replay self.old.counts events
+            → IsLawfulNext events event → OnOk result (HasCountedAlong self.new.replay self.new.counts (events ++ event ∷ [])) }
         ensures kept { (events : List Event) → HasCountedAlong self.old.replay self.old.counts events
             → OnErr result (HasCountedAlong self.new.replay self.new.counts events) }
     {

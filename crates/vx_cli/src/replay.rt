@@ -70,9 +70,10 @@ impl TickAnswers {
 
     /// Takes up an event, and keeps what it is answered.
     fn step(&mut self, event: Event) -> Result<(), NoMemory>
-        requires lawful { (events : List Event) × HasAnsweredLast self.old.replay self.old.last events × IsLawfulNext events event }
-        ensures taken { (events : List Event) → HasAnsweredLast self.old.replay self.old.last events → IsLawfulNext events event
-            → OnOk result (HasAnsweredLast self.new.replay self.new.last (events ++ event ∷ [])) }
+        requires lawful { (events : List Event) × HasAnsweredLast self.old.replay self.old.last events
+            × IsLawfulNext events event }
+        ensures taken { (events : List Event) → HasAnsweredLast self.old.replay self.old.last events
+            → IsLawfulNext events event → OnOk result (HasAnsweredLast self.new.replay self.new.last (events ++ event ∷ [])) }
         ensures kept { (events : List Event) → HasAnsweredLast self.old.replay self.old.last events
             → OnErr result (HasAnsweredLast self.new.replay self.new.last events) }
     {
@@ -91,10 +92,11 @@ impl TickAnswers {
 
     /// Takes up an event that is no tick. An answer is large, and none is made or moved here.
     fn take_up(&mut self, event: Event) -> Result<(), NoMemory>
-        requires lawful { (events : List Event) × HasAnsweredLast self.old.replay self.old.last events × IsLawfulNext events event }
+        requires lawful { (events : List Event) × HasAnsweredLast self.old.replay self.old.last events
+            × IsLawfulNext events event }
         requires no_tick { minute_of_tick event ≡ None }
-        ensures taken { (events : List Event) → HasAnsweredLast self.old.replay self.old.last events → IsLawfulNext events event
-            → OnOk result (HasAnsweredLast self.new.replay self.new.last (events ++ event ∷ [])) }
+        ensures taken { (events : List Event) → HasAnsweredLast self.old.replay self.old.last events
+            → IsLawfulNext events event → OnOk result (HasAnsweredLast self.new.replay self.new.last (events ++ event ∷ [])) }
         ensures kept { (events : List Event) → HasAnsweredLast self.old.replay self.old.last events
             → OnErr result (HasAnsweredLast self.new.replay self.new.last events) }
     {

@@ -4,9 +4,9 @@ pub mod CauseLemmas
 mod CertificateLemmas
 pub mod ExitLemmas
 mod FailureLemmas
-mod PositionLinesLemmas
 pub mod OneRun
 pub mod PositionLawLemmas
+mod PositionLinesLemmas
 pub mod PositionRunIsThere
 pub mod PositionRunLemmas
 pub mod RunIsThere

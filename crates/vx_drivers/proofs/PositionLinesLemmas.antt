@@ -24,7 +24,7 @@ use Rattle.vx_drivers.specs.declared.position_lines.PositionLines.{PositionLines
 use Rattle.vx_drivers.specs.declared.position_lines.Rest.{Rest}
 use Rattle.vx_drivers.specs.declared.position_lines.Rest.TheVariants.{More, End, Unsplit, TooLong, NoEol as NoLf}
 use Rattle.vx_drivers.specs.PositionExits.{IsLineFault, IsPositionCause}
-use Rattle.vx_drivers.specs.PositionLines.{Adds, CanBeSplit, IsFreshLines, IsPositionLines, IsReading, IsRestAfter, IsSplit, bad_behind, behind, block_coming, lines_coming, then_behind}
+use Rattle.vx_drivers.specs.PositionLines.{AddsPosition, CanBeSplit, IsFreshLines, IsPositionLines, IsReadingPositions, IsRestAfter, IsSplit, bad_behind, behind, block_coming, lines_coming, then_behind}
 use Rattle.vx_drivers.proofs.RunLemmas.{coming_kept, twice}
 
 -- ---- which lines can be split
@@ -60,7 +60,7 @@ fields-at (line ∷ lines) (suc i) fields below is = fields-at lines i fields (o
 -- ---- a line more
 
 -- what is to come behind a block where one more line was read
-line_added : (line : List ℕ) (said : Option PositionFault) (text : TextLines) (old new : PositionLines) → old.rest ≡ More → new.lines.last_bytes ≡ line → Adds line said old new
+line_added : (line : List ℕ) (said : Option PositionFault) (text : TextLines) (old new : PositionLines) → old.rest ≡ More → new.lines.last_bytes ≡ line → AddsPosition line said old new
     → lines_then new.block (behind new.lines.last_bytes new.rest text) ≡ lines_then old.block (behind old.lines.last_bytes old.rest (line_then line text))
 line_added line None text old new more last adds =
     ap (λ r. lines_then new.block (behind new.lines.last_bytes r text)) adds.1
@@ -75,7 +75,7 @@ line_added line (Some f) text old new more last adds =
 
 -- a line was read
 pub line_told : (line : List ℕ) (before after : Option TextLines) (old new : PositionLines) → old.rest ≡ More → new.lines.last_bytes ≡ line → before ≡ option_map (line_then line) after
-    → Adds line (unsplit_fault line) old new
+    → AddsPosition line (unsplit_fault line) old new
     → option_map (λ text. lines_then new.block (behind new.lines.last_bytes new.rest text)) after
     ≡ option_map (λ text. lines_then old.block (behind old.lines.last_bytes old.rest text)) before
 line_told line before None old new more last taken adds =
@@ -96,8 +96,8 @@ place_told lines ending (Some text) after old_last new_last old_rest new_rest mo
     ∙ ap (λ r. Some (lines_then lines (behind old_last r text))) (sym more)
 
 -- a block with one line more can be read on
-pub reading_added : (old new : PositionLines) (line : List ℕ) → IsReading old → new.lines ≡ old.lines → new.rest ≡ old.rest → unsplit_fault line ≡ None
-    → new.block ≡ old.block ++ line ∷ [] → IsReading new
+pub reading_added : (old new : PositionLines) (line : List ℕ) → IsReadingPositions old → new.lines ≡ old.lines → new.rest ≡ old.rest → unsplit_fault line ≡ None
+    → new.block ≡ old.block ++ line ∷ [] → IsReadingPositions new
 reading_added old new line is lines rest here block = record {
   slot = ap (λ (reader : ReaderState). reader.slot) lines ∙ is.slot;
   limit = ap (λ (reader : ReaderState). reader.limit) lines ∙ is.limit;
@@ -109,7 +109,7 @@ reading_added old new line is lines rest here block = record {
 -- a line was read behind a block
 pub read_told : (old new : PositionLines) (reader : ReaderState) (before after : Slot → Told) → old.rest ≡ More
     → coming old.lines before ≡ option_map (line_then reader.last_bytes) (coming reader after) → new.lines ≡ reader
-    → Adds reader.last_bytes (unsplit_fault reader.last_bytes) (record old { lines = reader }) new → block_coming new after ≡ block_coming old before
+    → AddsPosition reader.last_bytes (unsplit_fault reader.last_bytes) (record old { lines = reader }) new → block_coming new after ≡ block_coming old before
 read_told old new reader before after more taken lines adds =
     ap (λ (r : ReaderState). option_map (λ text. lines_then new.block (behind new.lines.last_bytes new.rest text)) (coming r after)) lines
     ∙ line_told reader.last_bytes (coming old.lines before) (coming reader after) (record old { lines = reader }) new more (ap (λ (r : ReaderState). r.last_bytes) lines) taken adds
@@ -173,7 +173,7 @@ block_split block p told lines rest same first =
     ∙ ap (λ (reader : ReaderState). option_map (λ text. lines_then block.block (behind reader.last_bytes block.rest text)) (coming reader told)) lines
 
 -- and they can be read on
-pub reading_split : (block p : PositionLines) → IsReading block → p.lines ≡ block.lines → p.rest ≡ block.rest → p.block ≡ block.block → IsReading p
+pub reading_split : (block p : PositionLines) → IsReadingPositions block → p.lines ≡ block.lines → p.rest ≡ block.rest → p.block ≡ block.block → IsReadingPositions p
 reading_split block p is lines rest same = record {
   slot = ap (λ (reader : ReaderState). reader.slot) lines ∙ is.slot;
   limit = ap (λ (reader : ReaderState). reader.limit) lines ∙ is.limit;

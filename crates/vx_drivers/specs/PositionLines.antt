@@ -33,7 +33,7 @@ IsRestAfter last (Unsplit fault) = (unsplit_fault last ≡ Some fault) × IsLine
 IsRestAfter last _ = Unit {0}
 
 -- the positions are read, and may be read on where more can come
-pub record IsReading (p : PositionLines) : Type 0 where
+pub record IsReadingPositions (p : PositionLines) : Type 0 where
   pub slot : p.lines.slot ≡ Side
   pub limit : p.lines.limit ≡ POSITION_LINE_LEN_MAX
   pub may_read : p.rest ≡ More → p.lines.is_ended ≡ false
@@ -42,7 +42,7 @@ pub record IsReading (p : PositionLines) : Type 0 where
 
 -- and the block that was read is split
 pub record IsPositionLines (p : PositionLines) : Type 0 where
-  pub reading : IsReading p
+  pub reading : IsReadingPositions p
   pub split : p.table ≡ map fields_of_line p.block
 
 -- nothing was read
@@ -54,8 +54,8 @@ pub record IsFreshLines (p : PositionLines) : Type 0 where
   pub rest : p.rest ≡ More
 
 -- a line that was split is at hand, or it is known what comes in its place
-abbrev pub HasNext : PositionLines → Type 0
-HasNext p = p.rest ≡ More → p.taken < length p.table
+abbrev pub HasNextPosition : PositionLines → Type 0
+HasNextPosition p = p.rest ≡ More → p.taken < length p.table
 
 -- what comes behind the lines that were split, by the last line that was read and the lines not yet looked at
 abbrev pub behind : List ℕ → Rest → TextLines → TextLines
@@ -79,13 +79,13 @@ abbrev pub lines_coming : PositionLines → (Slot → Told) → Option TextLines
 lines_coming p told = then_behind (drop p.taken p.block) p told
 
 -- a line is added to a block, or it cannot be split and the block stops before it
-abbrev pub Adds : List ℕ → Option PositionFault → PositionLines → PositionLines → Type 0
-Adds line None old new = (new.block ≡ old.block ++ line ∷ []) × (new.rest ≡ More)
-Adds line (Some fault) old new = (new.block ≡ old.block) × (new.rest ≡ Unsplit fault)
+abbrev pub AddsPosition : List ℕ → Option PositionFault → PositionLines → PositionLines → Type 0
+AddsPosition line None old new = (new.block ≡ old.block ++ line ∷ []) × (new.rest ≡ More)
+AddsPosition line (Some fault) old new = (new.block ≡ old.block) × (new.rest ≡ Unsplit fault)
 
 -- the line that was read last is added to a block, or the block stops before it
-abbrev pub AddsLast : PositionLines → PositionLines → Type 0
-AddsLast old new = Adds old.lines.last_bytes (unsplit_fault old.lines.last_bytes) old new
+abbrev pub AddsLastPosition : PositionLines → PositionLines → Type 0
+AddsLastPosition old new = AddsPosition old.lines.last_bytes (unsplit_fault old.lines.last_bytes) old new
 
 -- why the line behind those that were split is bad, by whether there are as many as there may be; nothing at the end
 abbrev pub bad_behind : Rest → Bool → Option PositionCause

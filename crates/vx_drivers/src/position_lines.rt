@@ -54,7 +54,7 @@ impl PositionLines {
     ghost use Rattle.vx_reading.specs.Failures.{IsStep};
     ghost use Rattle.vx_drivers.specs.Exits.{calls_in, is_cut};
     ghost use Rattle.vx_drivers.specs.PositionExits.{IsPositionExit};
-    ghost use Rattle.vx_drivers.specs.PositionLines.{AddsLast, HasNext, IsFreshLines, IsPositionLines, IsReading};
+    ghost use Rattle.vx_drivers.specs.PositionLines.{AddsLastPosition, HasNextPosition, IsFreshLines, IsPositionLines, IsReadingPositions};
     ghost use Rattle.vx_drivers.specs.PositionLines.{block_coming, lines_coming};
 
     /// The lines of positions of which nothing was read.
@@ -72,11 +72,11 @@ impl PositionLines {
 
     /// Adds the line that was read to the block, or stops before it where it cannot be split.
     fn add(&mut self, line: &Line) -> Result<(), NoMemory>
-        requires reading { IsReading self.old }
+        requires reading { IsReadingPositions self.old }
         requires more { self.old.rest ≡ Rest.More }
         requires last { self.old.lines.last ≡ Some line.now }
-        ensures reading { OnOk result (IsReading self.new) }
-        ensures adds { OnOk result (AddsLast self.old self.new) }
+        ensures reading { OnOk result (IsReadingPositions self.new) }
+        ensures adds { OnOk result (AddsLastPosition self.old self.new) }
         ensures lines { self.new.lines ≡ self.old.lines }
         ensures one { OnOk result (self.new.rest ≡ Rest.More → length self.new.block ≡ length self.old.block + 1) }
     {
@@ -92,10 +92,10 @@ impl PositionLines {
 
     /// Reads one more line to be split, or finds what comes in its place.
     fn read_line<D: Desk>(&mut self, desk: &mut D) -> Result<(), Exit>
-        requires reading { IsReading self.old }
+        requires reading { IsReadingPositions self.old }
         requires more { self.old.rest ≡ Rest.More }
         requires open { IsTrue (D.told desk.old Slot.Side).is_open }
-        ensures reading { OnOk result (IsReading self.new) }
+        ensures reading { OnOk result (IsReadingPositions self.new) }
         ensures coming { OnOk result (block_coming self.new (D.told desk.new) ≡ block_coming self.old (D.told desk.old)) }
         ensures one { OnOk result (self.new.rest ≡ Rest.More → length self.new.block ≡ length self.old.block + 1) }
         ensures cut { IfErr result (λ exit. is_cut exit ≡ true) }
@@ -115,10 +115,10 @@ impl PositionLines {
 
     /// Adds the lines that the reader holds, up to what is no line that can be split.
     fn add_held<D: Desk>(&mut self, desk: &mut D) -> Result<(), Exit>
-        requires reading { IsReading self.old }
+        requires reading { IsReadingPositions self.old }
         requires some { self.old.rest ≡ Rest.More → 0 < length self.old.block }
         requires open { IsTrue (D.told desk.old Slot.Side).is_open }
-        ensures reading { OnOk result (IsReading self.new) }
+        ensures reading { OnOk result (IsReadingPositions self.new) }
         ensures coming { OnOk result (block_coming self.new (D.told desk.new) ≡ block_coming self.old (D.told desk.old)) }
         ensures some { OnOk result (self.new.rest ≡ Rest.More → 0 < length self.new.block) }
         ensures cut { IfErr result (λ exit. is_cut exit ≡ true) }
@@ -144,7 +144,7 @@ impl PositionLines {
         requires more { self.old.rest ≡ Rest.More }
         requires used { length self.old.table ≤ self.old.taken }
         requires open { IsTrue (D.told desk.old Slot.Side).is_open }
-        ensures reading { OnOk result (IsReading self.new) }
+        ensures reading { OnOk result (IsReadingPositions self.new) }
         ensures coming { OnOk result (block_coming self.new (D.told desk.new) ≡ lines_coming self.old (D.told desk.old)) }
         ensures some { OnOk result (self.new.rest ≡ Rest.More → 0 < length self.new.block) }
         ensures cut { IfErr result (λ exit. is_cut exit ≡ true) }
@@ -177,7 +177,7 @@ impl PositionLines {
         requires open { IsTrue (D.told desk.old Slot.Side).is_open }
         ensures lines { OnOk result (IsPositionLines self.new) }
         ensures coming { OnOk result (lines_coming self.new (D.told desk.new) ≡ lines_coming self.old (D.told desk.old)) }
-        ensures next { OnOk result (HasNext self.new) }
+        ensures next { OnOk result (HasNextPosition self.new) }
         ensures cut { IfErr result (λ exit. is_cut exit ≡ true) }
         ensures exits { IfErr result IsPositionExit }
         ensures step { IsStep (calls_in result) (D.told desk.old) (D.told desk.new) }

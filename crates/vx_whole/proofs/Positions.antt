@@ -11,11 +11,11 @@ use Rattle.vx_settle.proofs.Amounts.{amount_is_there}
 use Rattle.vx_soq.proofs.LawfulOpenings.{opening_answer_is_lawful}
 use Rattle.vx_drivers.specs.PositionRun.{positions_of}
 use Rattle.vx_drivers.proofs.PositionRunIsThere.{run_is_there as position_run_is_there}
-use Rattle.vx_cli.specs.SettleRuns.{AnsweredOpening, IsAnsweredOpening, LineComesTo, settle_rules}
+use Rattle.vx_cli.specs.SettleRuns.{AnsweredOpening, IsAnsweredOpening, LineComesTo}
 use Rattle.vx_cli.specs.SettleText.{Settled, figure_of}
 use Rattle.vx_laws.proofs.ReadingLemmas.{prefix_is_lawful}
 use Rattle.vx_existence.proofs.Openings.{opening_has_answer}
-use Rattle.vx_whole.specs.Runs.{SettleIsThere}
+use Rattle.vx_whole.specs.Runs.{SettleIsThere, amounts_alone}
 
 opening_is_there : (events : List Event) → AreLawful events → (a : AnsweredOpening) × IsAnsweredOpening events a
 opening_is_there events lawful =
@@ -44,7 +44,7 @@ line_comes figure line (Err fault) is = (Err fault, is)
 -- a run of `settle` is there
 pub settle_is_there : SettleIsThere
 settle_is_there feed positions =
-    position_run_is_there settle_rules (reading_of feed) (positions_of positions) (record {
+    position_run_is_there amounts_alone (reading_of feed) (positions_of positions) (record {
       opens = opening_is_there (reading_of feed).events (prefix_is_lawful feed);
       comes = λ a line is_opening. line_comes (figure_of a.answer) line (position_of_line line) refl;
     })

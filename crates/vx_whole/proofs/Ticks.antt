@@ -8,11 +8,11 @@ use Rattle.vx_feed.specs.Order.{AreLawful}
 use Rattle.vx_feed.proofs.LawfulLists.{leading_parts_are_lawful}
 use Rattle.vx_claims.specs.Seen.{event_at}
 use Rattle.vx_drivers.proofs.TickLawLemmas.{run_is_there as tick_run_is_there}
-use Rattle.vx_cli.specs.ReplayRuns.{GivesAnswer, replay_rules}
+use Rattle.vx_cli.specs.ReplayRuns.{GivesAnswer}
 use Rattle.vx_cli.specs.ReplayText.{Answered}
 use Rattle.vx_laws.proofs.ReadingLemmas.{prefix_is_lawful}
 use Rattle.vx_existence.proofs.Ticks.{every_tick_has_lawful_answer}
-use Rattle.vx_whole.specs.Runs.{ReplayIsThere}
+use Rattle.vx_whole.specs.Runs.{ReplayIsThere, answers_alone}
 use Rattle.vx_whole.proofs.Places.{some_tick}
 
 -- the last of lawful events, of which there is one, is given something
@@ -31,7 +31,7 @@ last_is_given events low lawful =
 -- a run of `replay` is there
 pub replay_is_there : ReplayIsThere
 replay_is_there feed =
-    tick_run_is_there replay_rules (reading_of feed) (λ before event after is.
+    tick_run_is_there answers_alone (reading_of feed) (λ before event after is.
     let whole : (reading_of feed).events ≡ (before ++ event ∷ []) ++ after = is ∙ sym (append_assoc before (event ∷ []) after) in
     let lawful : AreLawful (before ++ event ∷ []) =
     leading_parts_are_lawful (before ++ event ∷ []) after (subst AreLawful whole (prefix_is_lawful feed)) in

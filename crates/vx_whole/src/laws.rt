@@ -20,12 +20,13 @@ pub fn check_is_there()
     ensures { CheckIsThere }
 {}
 
-/// Over any feed and any file of positions there is a run of `settle`.
+/// Over any feed and any file of positions there is a run of `settle`, less the promise that its certificate is read
+/// back from its line.
 pub fn settle_is_there()
     ensures { SettleIsThere }
 {}
 
-/// Over any feed there is a run of `replay`.
+/// Over any feed there is a run of `replay`, less the promise that each certificate is read back from its line.
 pub fn replay_is_there()
     ensures { ReplayIsThere }
 {}

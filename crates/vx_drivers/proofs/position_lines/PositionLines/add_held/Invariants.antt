@@ -3,12 +3,12 @@ use Rattle.vx_desk.specs.declared.device.Slot.TheVariants.{Side}
 use Rattle.vx_desk.specs.Told.{ChangesOnly}
 use Rattle.vx_reading.specs.Failures.{IsStep}
 use Rattle.vx_drivers.specs.declared.position_lines.Rest.TheVariants.{More}
-use Rattle.vx_drivers.specs.PositionLines.{IsReading, block_coming}
+use Rattle.vx_drivers.specs.PositionLines.{IsReadingPositions, block_coming}
 use Rattle.vx_drivers.proofs.position_lines.PositionLines.add_held.Given as goal
 
 abbrev pub invariant-held : goal.invariant-held
 invariant-held g l = record {
-  reading : IsReading l.self;
+  reading : IsReadingPositions l.self;
   some : l.self.rest ≡ More → 0 < length l.self.block;
   is_open : IsTrue (g.D.Desk.told l.desk Side).is_open;
   coming : block_coming l.self (g.D.Desk.told l.desk) ≡ block_coming l.initial.self (g.D.Desk.told l.initial.desk);
