@@ -193,7 +193,7 @@ module _ (feed certs : Text) (holds : List ℕ → Option (List ℕ)) (before : 
 pub nothing_done : (command : Option Command) (holds : List ℕ → Option (List ℕ)) (told : Slot → Told) → OnlyOutIsOpen told → SendsFor command holds told told NoMemory
 nothing_done None holds told only = refl
 nothing_done (Some (replay feed certs)) holds told only =
-    nothing_sent (option_map reading_of (holds feed)) told told NoMemory refl refl (only Certs (λ e. cc)) refl
+    nothing_sent (option_map reading_of (holds feed)) told told NoMemory refl refl (only Certs (λ e. cc)) refl (λ e. cc)
 nothing_done (Some (check feed certs)) holds told only = sends_nothing feed certs holds told only told NoMemory refl refl
 nothing_done (Some (settle feed positions certs)) holds told only =
     nothing_settled (option_map reading_of (holds feed)) (option_map positions_of (holds positions)) told told NoMemory refl refl (only Certs (λ e. cc)) refl

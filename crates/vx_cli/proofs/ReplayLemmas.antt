@@ -1,11 +1,12 @@
 -- A run of `replay` that is cut off before it sends.
 use Rattle.std.proofs.Common.{◌≡◌, sym, subst, refl, inl, true, false, Bool, [], Option, Some, None, arith}
 use Rattle.vx_desk.specs.declared.device.Slot.{Slot}
-use Rattle.vx_desk.specs.declared.device.Slot.TheVariants.{Out, Certs}
+use Rattle.vx_desk.specs.declared.device.Slot.TheVariants.{Feed, Out, Certs}
 use Rattle.vx_desk.specs.Told.{Told}
 use Rattle.vx_feed.specs.Feed.{Reading}
 use Rattle.vx_reading.specs.FeedReading.{Says, all_good}
 use Rattle.vx_drivers.specs.declared.exit.Exit.{Exit}
+use Rattle.vx_drivers.specs.declared.exit.Exit.TheVariants.{OpenFault, ReadFault}
 use Rattle.vx_drivers.specs.Exits.{is_cut}
 use Rattle.vx_drivers.specs.TickRun.{AreWhole, GivesTickAnswers, GivesTickParts, RunsTicksIf, no_events}
 use Rattle.vx_drivers.proofs.SendingLemmas.{sent_none}
@@ -49,8 +50,8 @@ some_feed (Some f) = record { over = f; feed_is = refl }
 
 -- a run that is cut off before it sends
 pub nothing_sent : (feed : Option Reading) (before after : Slot → Told) (exit : Exit) → is_cut exit ≡ true → after Out ≡ before Out
-    → (after Certs).is_open ≡ false → (after Certs).sent ≡ (before Certs).sent → HasReplayed feed before after exit
-nothing_sent feed before after exit cut out shut certs =
+    → (after Certs).is_open ≡ false → (after Certs).sent ≡ (before Certs).sent → (exit ≡ ReadFault Feed → ⊥) → HasReplayed feed before after exit
+nothing_sent feed before after exit cut out shut certs no_read =
     let some = some_feed feed in
     record {
       over = some.over;
@@ -61,4 +62,9 @@ nothing_sent feed before after exit cut out shut certs =
           (record { parts = first_parts some.over; whole = λ not. no_answers some.over });
       out_sent = sent_none (before Out) (after Out) out;
       certs_sent = subst (λ (b : Bool). SentIfOpen b [] (before Certs) (after Certs)) (sym shut) (refl, certs);
+      read_fault = λ is. absurd (no_read is);
     }
+
+-- where an open failed no read did
+pub no_read_failed : (slot other : Slot) (exit : Exit) → exit ≡ OpenFault slot → exit ≡ ReadFault other → ⊥
+no_read_failed slot other exit opens reads = cc

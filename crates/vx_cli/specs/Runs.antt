@@ -7,9 +7,10 @@ use Rattle.vx_desk.specs.declared.device.Slot.TheVariants.{Feed, Side, Out, Cert
 use Rattle.vx_lines.specs.TextLines.{TextLines}
 use Rattle.vx_feed.specs.Feed.{Reading, reading_of}
 use Rattle.vx_make.specs.Feed.{make_text}
-use Rattle.vx_reading.specs.FeedReading.{Says, feed_told}
+use Rattle.vx_reading.specs.FeedReading.{IsCutBehind, Says, feed_told}
 use Rattle.vx_drivers.specs.declared.exit.Exit.{Exit}
-use Rattle.vx_drivers.specs.declared.exit.Exit.TheVariants.{Done, OpenFault, WriteFault, NoMemory}
+use Rattle.vx_drivers.specs.declared.exit.Exit.TheVariants.{Done, OpenFault, ReadFault, WriteFault, NoMemory}
+use Rattle.vx_drivers.specs.Along.{Along}
 use Rattle.vx_drivers.specs.CertificateExits.{IsCertificateExit}
 use Rattle.vx_drivers.specs.CertificateRun.{certificates_of}
 use Rattle.vx_drivers.specs.CertificateSteps.{HasEnded, certs_told}
@@ -18,11 +19,12 @@ use Rattle.vx_drivers.specs.PositionRun.{RunsPositionsBy, positions_of}
 use Rattle.vx_drivers.specs.PositionSteps.{HasEndedPositions, positions_told}
 use Rattle.vx_drivers.specs.Sending.{Sent, SentPart, Text}
 use Rattle.vx_drivers.specs.TickExits.{IsTickExit}
-use Rattle.vx_drivers.specs.TickRun.{RunsTicksBy}
+use Rattle.vx_drivers.specs.TickRun.{RunsTicksBy, TakesEvent, TickStand, certificates_text, lines_text, no_events}
 use Rattle.vx_drivers.specs.TickSteps.{HasEndedTicks}
 use Rattle.vx_cli.specs.CheckRuns.{check_rules}
 use Rattle.vx_cli.specs.DrillText.{Drills}
 use Rattle.vx_cli.specs.ReplayRuns.{replay_rules}
+use Rattle.vx_cli.specs.ReplayText.{Answered}
 use Rattle.vx_cli.specs.SettleRuns.{settle_rules}
 use Rattle.vx_cli.specs.Words.{Command, check, drill, make, replay, settle}
 
@@ -160,6 +162,16 @@ abbrev pub SentIfOpen : Bool → Text → Told → Told → Type 0
 SentIfOpen true text before after = after.sent ≡ option_map (λ bytes. text) before.sent
 SentIfOpen false text before after = (text ≡ []) × (after.sent ≡ before.sent)
 
+-- a read of the feed failed: just the answers to its first ticks were sent, each with its certificate, and behind the
+-- events that were then taken up no more was read of the feed than a part of a line
+pub record AnswersBeforeFault (feed : Option Reading) (before after : Slot → Told) : Type 0 where
+  pub stand : TickStand Answered
+  pub steps : Along (TakesEvent replay_rules) no_events stand.events stand
+  pub cut : IsCutBehind feed stand.events after
+  pub out_sent : Sent (lines_text replay_rules stand.answers) (before Out) (after Out)
+  pub certs_sent : SentIfOpen (after Certs).is_open (certificates_text replay_rules stand.answers)
+      (before Certs) (after Certs)
+
 -- what a run of `replay` sends over a feed, the one that is told, or some feed where none is: to the output and to the
 -- file of certificates the two texts of a run that ends so, or first parts of them where a call fails or memory is
 -- wanting, each certificate whole whose line was begun
@@ -171,6 +183,7 @@ pub record HasReplayed (feed : Option Reading) (before after : Slot → Told) (e
   pub runs : RunsTicksBy replay_rules over exit out certs
   pub out_sent : Sent out (before Out) (after Out)
   pub certs_sent : SentIfOpen (after Certs).is_open certs (before Certs) (after Certs)
+  pub read_fault : exit ≡ ReadFault Feed → AnswersBeforeFault feed before after
 
 -- the same of files that are open
 abbrev pub ReplaysOpen : (Slot → Told) → (Slot → Told) → Exit → Type 0

@@ -96,7 +96,8 @@ impl PositionLines {
         requires more { self.old.rest ≡ Rest.More }
         requires open { IsTrue (D.told desk.old Slot.Side).is_open }
         ensures reading { OnOk result (IsReadingPositions self.new) }
-        ensures coming { OnOk result (block_coming self.new (D.told desk.new) ≡ block_coming self.old (D.told desk.old)) }
+        ensures coming { OnOk result (block_coming self.new (D.told desk.new)
+            ≡ block_coming self.old (D.told desk.old)) }
         ensures one { OnOk result (self.new.rest ≡ Rest.More → length self.new.block ≡ length self.old.block + 1) }
         ensures cut { IfErr result (λ exit. is_cut exit ≡ true) }
         ensures exits { IfErr result IsPositionExit }
@@ -119,7 +120,8 @@ impl PositionLines {
         requires some { self.old.rest ≡ Rest.More → 0 < length self.old.block }
         requires open { IsTrue (D.told desk.old Slot.Side).is_open }
         ensures reading { OnOk result (IsReadingPositions self.new) }
-        ensures coming { OnOk result (block_coming self.new (D.told desk.new) ≡ block_coming self.old (D.told desk.old)) }
+        ensures coming { OnOk result (block_coming self.new (D.told desk.new)
+            ≡ block_coming self.old (D.told desk.old)) }
         ensures some { OnOk result (self.new.rest ≡ Rest.More → 0 < length self.new.block) }
         ensures cut { IfErr result (λ exit. is_cut exit ≡ true) }
         ensures exits { IfErr result IsPositionExit }
@@ -145,7 +147,8 @@ impl PositionLines {
         requires used { length self.old.table ≤ self.old.taken }
         requires open { IsTrue (D.told desk.old Slot.Side).is_open }
         ensures reading { OnOk result (IsReadingPositions self.new) }
-        ensures coming { OnOk result (block_coming self.new (D.told desk.new) ≡ lines_coming self.old (D.told desk.old)) }
+        ensures coming { OnOk result (block_coming self.new (D.told desk.new)
+            ≡ lines_coming self.old (D.told desk.old)) }
         ensures some { OnOk result (self.new.rest ≡ Rest.More → 0 < length self.new.block) }
         ensures cut { IfErr result (λ exit. is_cut exit ≡ true) }
         ensures exits { IfErr result IsPositionExit }
@@ -176,7 +179,8 @@ impl PositionLines {
         requires lines { IsPositionLines self.old }
         requires open { IsTrue (D.told desk.old Slot.Side).is_open }
         ensures lines { OnOk result (IsPositionLines self.new) }
-        ensures coming { OnOk result (lines_coming self.new (D.told desk.new) ≡ lines_coming self.old (D.told desk.old)) }
+        ensures coming { OnOk result (lines_coming self.new (D.told desk.new)
+            ≡ lines_coming self.old (D.told desk.old)) }
         ensures next { OnOk result (HasNextPosition self.new) }
         ensures cut { IfErr result (λ exit. is_cut exit ≡ true) }
         ensures exits { IfErr result IsPositionExit }

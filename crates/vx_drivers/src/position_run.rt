@@ -77,7 +77,8 @@ impl<S: SettlesPositions> PositionRun<S> {
         requires few { self.old.count < POSITION_LINES_MAX }
         requires split { (text : List ℕ) × IsSplit text fields.now }
         requires out { IsTrue (D.told desk.old Slot.Out).is_open }
-        ensures settles { (text : List ℕ) → IsSplit text fields.now → SettlesOne S.rules S.StandsAt self.old text self.new
+        ensures settles { (text : List ℕ) → IsSplit text fields.now
+            → SettlesOne S.rules S.StandsAt self.old text self.new
             (D.told desk.old Slot.Out) (D.told desk.new Slot.Out) result }
         ensures lines { OnOk result (self.new.count ≡ self.old.count + 1) }
         ensures exits { IfErr result IsPositionExit }

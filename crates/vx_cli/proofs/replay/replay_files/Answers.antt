@@ -1,12 +1,12 @@
 use Rattle.std.proofs.Common.{◌∙◌, ap, None}
 use Rattle.std.specs.Option.{option_map}
-use Rattle.vx_desk.specs.declared.device.Slot.TheVariants.{Out, Certs}
+use Rattle.vx_desk.specs.declared.device.Slot.TheVariants.{Feed, Out, Certs}
 use Rattle.vx_desk.specs.Told.{Told}
 use Rattle.vx_feed.specs.Feed.{reading_of}
 use Rattle.vx_reading.proofs.FailureLemmas.{failures_after}
 use Rattle.vx_drivers.specs.Exits.{exit_calls, is_cut}
 use Rattle.vx_drivers.proofs.ExitLemmas.{certs_not_feed, certs_not_out, out_not_certs, out_not_feed}
-use Rattle.vx_cli.proofs.ReplayLemmas.{nothing_sent}
+use Rattle.vx_cli.proofs.ReplayLemmas.{no_read_failed, nothing_sent}
 use Rattle.vx_cli.proofs.replay.replay_files.Goals as goal
 
 pub returns-in-Err-clause-sends : goal.returns-in-Err-clause-sends
@@ -17,6 +17,7 @@ returns-in-Err-clause-sends g c =
     (ap is_cut c.in-Err.ensures.opens.0) (others Out out_not_feed)
     (ap (λ (t : Told). t.is_open) (others Certs certs_not_feed) ∙ c.requires.closed Certs certs_not_out)
     (ap (λ (t : Told). t.sent) (others Certs certs_not_feed))
+    (no_read_failed Feed Feed c.in-Err.exit c.in-Err.ensures.opens.0)
 
 pub returns-in-Err-open_slot-clause-sends : goal.returns-in-Err-open_slot-clause-sends
 returns-in-Err-open_slot-clause-sends g c =
@@ -27,6 +28,7 @@ returns-in-Err-open_slot-clause-sends g c =
     c.in-Err-open_slot.exit (ap is_cut failed.opens.0) (failed.others Out out_not_certs ∙ first Out out_not_feed)
     (failed.opens.1.is_open ∙ ap (λ (t : Told). t.is_open) (first Certs certs_not_feed) ∙ c.requires.closed Certs certs_not_out)
     (failed.opens.1.sent ∙ ap (λ (t : Told). t.sent) (first Certs certs_not_feed))
+    (no_read_failed Certs Feed c.in-Err-open_slot.exit failed.opens.0)
 
 pub returns-clause-failures : goal.returns-clause-failures
 returns-clause-failures g c =
