@@ -21,6 +21,7 @@ use Rattle.vx_claims.specs.Seen.{events_before, moment_of, opening_term_facts, t
 use Rattle.vx_claims.specs.TermTests.{TermMeets}
 use Rattle.vx_claims.specs.Accepts.{BodyMeets, FirstFailing, IndexMeets, K0Meets, Meets, OpeningTermMeets, SingleMeets, SoqMeets, TermMeetsAt, scale_of, zero_rate_forward}
 use Rattle.vx_tests.proofs.Numbered.{same_test}
+use Rattle.vx_check.proofs.Verdicts.{first_number, last_number}
 use Rattle.vx_whole.specs.Verdicts.{EveryCertificateIsJudged}
 use Rattle.vx_whole.proofs.Decided.{IsDecided, both, is_some, is_true, like, of_some, same_number, same_whole}
 use Rattle.vx_whole.proofs.FigureTests.{index_ends, single_square, square}
@@ -154,42 +155,6 @@ module _ (Holds : Test → Type 0) (decide : (test : Test) → IsDecided (Holds 
         | inr fails ↦ inr (test, record { fails = fails; all_before = λ other low. before other (omega arith) })
       ]
 
-  first_number : (test : Test) → 1 ≤ test_number test
-  first_number Place = omega arith
-  first_number Terms = omega arith
-  first_number Minutes = omega arith
-  first_number Rate = omega arith
-  first_number TaylorTerms = omega arith
-  first_number Exponential = omega arith
-  first_number ClosestPair = omega arith
-  first_number Forward = omega arith
-  first_number Level = omega arith
-  first_number Excess = omega arith
-  first_number Strip = omega arith
-  first_number Contributions = omega arith
-  first_number Total = omega arith
-  first_number Variance = omega arith
-  first_number Square = omega arith
-  first_number IndexEnds = omega arith
-
-  last_number : (test : Test) → test_number test < 17
-  last_number Place = omega arith
-  last_number Terms = omega arith
-  last_number Minutes = omega arith
-  last_number Rate = omega arith
-  last_number TaylorTerms = omega arith
-  last_number Exponential = omega arith
-  last_number ClosestPair = omega arith
-  last_number Forward = omega arith
-  last_number Level = omega arith
-  last_number Excess = omega arith
-  last_number Strip = omega arith
-  last_number Contributions = omega arith
-  last_number Total = omega arith
-  last_number Variance = omega arith
-  last_number Square = omega arith
-  last_number IndexEnds = omega arith
-
   all_tried : Tried 17
   all_tried =
       (try 16 IndexEnds refl
@@ -212,7 +177,7 @@ module _ (Holds : Test → Type 0) (decide : (test : Test) → IsDecided (Holds 
 
   -- all hold, or one is the first that fails
   pub all_or_first : ((test : Test) → Holds test) ⊎ ((test : Test) × FirstFailing Holds test)
-  all_or_first = elim all_tried [ inl all ↦ inl (λ test. all test (last_number test)) | inr found ↦ inr found ]
+  all_or_first = elim all_tried [ inl all ↦ inl (λ test. all test (let last = last_number test in omega arith)) | inr found ↦ inr found ]
 
 -- a certificate of either version is accepted, or one of its tests is the first that fails
 pub every_certificate_is_judged : EveryCertificateIsJudged
