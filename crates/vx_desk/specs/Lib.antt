@@ -7,5 +7,6 @@ pub mod Coming
 pub mod Refill
 pub mod Failures
 pub mod Untold
+pub mod Devices
 pub mod Memory
 pub mod MemFiles

@@ -25,6 +25,18 @@ pub record ReaderState : Type 0 where
   pub last : Option Line
   pub last_bytes : List ℕ
 
+-- a reader of this slot and limit that has read nothing
+abbrev pub new_reader : Slot → ℕ → ReaderState
+new_reader slot limit = record {
+  slot = slot;
+  limit = limit;
+  waiting = [];
+  number = 0;
+  is_ended = false;
+  last = None;
+  last_bytes = [];
+}
+
 -- the bytes that are to come to the reader's caller: those that wait, then those left in its slot
 abbrev pub to_come : ReaderState → Told → Option (List ℕ)
 to_come reader told = prepend_known reader.waiting told.left

@@ -4,6 +4,7 @@ use Rattle.std.specs.Str.{bytes_eq}
 use Rattle.vx_desk.specs.declared.memory.MemFile.{MemFile}
 use Rattle.vx_desk.specs.declared.memory.Source.{Source}
 use Rattle.vx_desk.specs.declared.memory.Sink.{Sink}
+use Rattle.vx_desk.specs.Failures.{no_failures}
 use Rattle.vx_desk.specs.Memory.{SlotRead, SlotWritten, held}
 
 -- each file's name and bytes
@@ -52,6 +53,10 @@ seen_sink files sink = record {
   sent = sink.bytes.items;
   failures = sink.failures;
 }
+
+-- a slot that is written was not opened, has sent nothing, and no call of it failed
+abbrev pub IsNewSink : Sink → Type 0
+IsNewSink sink = (sink.file ≡ None) × (sink.bytes.items ≡ []) × (sink.failures ≡ no_failures)
 
 -- the place, if there is one, is that of a file
 abbrev pub IsPlace : List MemFile → Option ℕ → Type 0

@@ -84,10 +84,14 @@ new_memory room most fails = record {
   certs = record { opened = None; sent = []; failures = no_failures };
 }
 
+-- no name but this one holds other bytes than it did
+abbrev pub ChangesOnlyFile : List ℕ → List (List ℕ × List ℕ) → List (List ℕ × List ℕ) → Type 0
+ChangesOnlyFile name old new = (other : List ℕ) → other ≢ name → held new other ≡ held old other
+
 -- the file is there with these bytes, and the others are as they were
 pub record AddsFile (old new : Memory) (name bytes : List ℕ) : Type 0 where
   pub added : held new.files name ≡ Some bytes
-  pub others : (other : List ℕ) → other ≢ name → held new.files other ≡ held old.files other
+  pub others : ChangesOnlyFile name old.files new.files
   pub rest : new ≡ record old { files = new.files }
 
 -- the number of the next call; it stops at the last value of 64 bits

@@ -1,5 +1,5 @@
 -- What a desk tells of a slot, and what its calls do to it.
-use Rattle.std.specs.Prelude.{false, ◌≡◌, ◌≢◌, ℕ, ◌+◌, ◌-◌, ◌^◌, ◌<◌, ◌≤◌, min, Bool, IsTrue, List, [], length, take, Option, Some, IfSome, Result, Ok, IfOk, OnOk, OnErr, MatchResult}
+use Rattle.std.specs.Prelude.{false, ◌≡◌, ◌≢◌, ℕ, ◌+◌, ◌-◌, ◌^◌, ◌<◌, ◌≤◌, min, Bool, IsTrue, List, [], length, take, Option, IfSome, Result, Ok, IfOk, OnOk, OnErr, MatchResult}
 use Rattle.std.specs.Option.{option_map}
 use Rattle.std.specs.Io.KnownBytes.{prepend_known, append_known, IsAtEnd}
 use Rattle.vx_desk.specs.declared.device.Slot.{Slot}

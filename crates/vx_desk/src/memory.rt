@@ -1,12 +1,14 @@
 //! A desk over files in memory, at which chosen calls fail.
 
-ghost use Rattle.std.specs.Prelude.{◌≡◌, ◌≢◌, ℕ, Option, string_bytes, ◌≤◌, ◌<◌, ◌+◌, ◌-◌, ◌⊎◌, ◌↔◌, [], min, length, vec_capacity, false, Contains, IsTrue, IsErr, IsNone, IfOk, OnOk, OnErr, is_ok, List, MatchOption, Some, None};
+ghost use Rattle.std.specs.Prelude.{◌≡◌, ℕ, ◌≤◌, ◌<◌, ◌+◌, ◌-◌, ◌⊎◌, ◌↔◌, [], List, length, min, string_bytes, vec_capacity};
+ghost use Rattle.std.specs.Prelude.{Option, Some, None, false, Contains, IsTrue, IsErr, IsNone, IfOk, OnOk, OnErr, is_ok, MatchOption};
 ghost use Rattle.vx_desk.specs.declared.memory.MemFile.{MemFile};
 ghost use Rattle.vx_desk.specs.Slots.{IsReading, IsWriting};
-ghost use Rattle.vx_desk.specs.Memory.{held, opens_to_read, opens_to_write, reads_from, writes_to, buffer_after};
+ghost use Rattle.vx_desk.specs.Memory.{ChangesOnlyFile, held, opens_to_read, opens_to_write, reads_from, writes_to, buffer_after};
 ghost use Rattle.vx_desk.specs.Told.{Told, Rose, Opens, Reads, Writes, ChangesOnly, OnlyOutIsOpen};
 ghost use Rattle.vx_desk.specs.Failures.{raised, no_failures};
-ghost use Rattle.vx_desk.specs.MemFiles.{file_at, bytes_of_file, place_of, files_of, IsFileAt, IsPlace, seen_source, seen_sink};
+ghost use Rattle.vx_desk.specs.MemFiles.{file_at, bytes_of_file, place_of, files_of, IsFileAt, IsPlace};
+ghost use Rattle.vx_desk.specs.MemFiles.{seen_source, seen_sink, IsNewSink};
 
 use crate::device::{Desk, Failed, Slot};
 use crate::failures::Failures;
@@ -60,7 +62,8 @@ fn make_file(alloc: Global, name: &str, bytes: &[u8]) -> Result<MemFile, NoMemor
 /// Puts a file in the place of the one with its name, or behind the others.
 fn put_file(files: &mut Vec<MemFile>, file: MemFile) -> Result<(), NoMemory>
     ensures added { OnOk result (held (files_of files.new.items) (string_bytes file.name) ≡ Some file.bytes.items) }
-    ensures others { OnOk result ((other : List ℕ) → other ≢ string_bytes file.name → held (files_of files.new.items) other ≡ held (files_of files.old.items) other) }
+    ensures others { OnOk result (ChangesOnlyFile (string_bytes file.name)
+        (files_of files.old.items) (files_of files.new.items)) }
     ensures unchanged { OnErr result (files.new.items ≡ files.old.items) }
     ensures places { (place : Option ℕ) → IsPlace files.old.items place → IsPlace files.new.items place }
 {
@@ -104,7 +107,8 @@ impl Source {
         requires { IsPlace files.now self.old.file }
         ensures place { IsPlace files.now self.new.file }
         ensures fails { IsErr result ↔ (IsTrue fails ⊎ IsNone (held (files_of files.now) name.now)) }
-        ensures state { seen_source files.now self.new ≡ opens_to_read name.now (held (files_of files.now) name.now) (is_ok result) (seen_source files.now self.old) }
+        ensures state { seen_source files.now self.new ≡ opens_to_read name.now (held (files_of files.now) name.now)
+            (is_ok result) (seen_source files.now self.old) }
         ensures rose { OnErr result (Rose self.old.failures.opens self.new.failures.opens) }
     {
         if fails {
@@ -127,7 +131,8 @@ impl Source {
         buf: &mut [u8],
     ) -> Result<usize, Failed>
         ensures fails { IsErr result ↔ IsTrue fails }
-        ensures count { IfOk result (λ n. n ≡ min most (min (length buf.old) (length (seen_source files.now self.old).left))) }
+        ensures count { IfOk result (λ n.
+            n ≡ min most (min (length buf.old) (length (seen_source files.now self.old).left))) }
         ensures buffer { buf.new ≡ buffer_after (seen_source files.now self.old).left buf.old result }
         ensures state { seen_source files.now self.new ≡ reads_from result (seen_source files.now self.old) }
         ensures rose { OnErr result (Rose self.old.failures.reads self.new.failures.reads) }
@@ -155,7 +160,7 @@ struct Sink {
 
 impl Sink {
     fn new(alloc: Global, room: usize) -> Result<Sink, NoMemory>
-        ensures state { IfOk result (λ sink. (sink.file ≡ None) × (sink.bytes.items ≡ []) × (sink.failures ≡ no_failures)) }
+        ensures state { IfOk result IsNewSink }
         ensures room { IfOk result (λ sink. room ≤ vec_capacity sink.bytes) }
     {
         Ok(Sink {
@@ -170,7 +175,8 @@ impl Sink {
         requires { IsPlace files.now self.old.file }
         ensures place { IsPlace files.now self.new.file }
         ensures fails { IsErr result ↔ (IsTrue fails ⊎ IsNone (held (files_of files.now) name.now)) }
-        ensures state { seen_sink files.now self.new ≡ opens_to_write name.now (is_ok result) (seen_sink files.now self.old) }
+        ensures state { seen_sink files.now self.new
+            ≡ opens_to_write name.now (is_ok result) (seen_sink files.now self.old) }
         ensures rose { OnErr result (Rose self.old.failures.opens self.new.failures.opens) }
         ensures room { vec_capacity self.old.bytes ≤ vec_capacity self.new.bytes }
     {
@@ -196,7 +202,8 @@ impl Sink {
         requires { room ≤ vec_capacity self.old.bytes }
         ensures fails { IsErr result ↔ (IsTrue fails ⊎ room ≤ length self.old.bytes.items) }
         ensures count { IfOk result (λ n. n ≡ min most (min (length bytes.now) (room - length self.old.bytes.items))) }
-        ensures state { (files : List MemFile) → seen_sink files self.new ≡ writes_to bytes.now result (seen_sink files self.old) }
+        ensures state { (files : List MemFile) → seen_sink files self.new
+            ≡ writes_to bytes.now result (seen_sink files self.old) }
         ensures rose { OnErr result (Rose self.old.failures.writes self.new.failures.writes) }
         ensures file { self.new.file ≡ self.old.file }
         ensures room { vec_capacity self.old.bytes ≤ vec_capacity self.new.bytes }
@@ -246,7 +253,13 @@ impl Model for MemDesk {
       certs = seen_sink d.files.items d.certs;
     } };
 
-    ghost invariant = { λ d. (1 ≤ d.most) × (d.room ≤ vec_capacity d.out.bytes) × (d.room ≤ vec_capacity d.certs.bytes) × (d.out.file ≡ None) × IsPlace d.files.items d.feed.file × IsPlace d.files.items d.side.file × IsPlace d.files.items d.certs.file };
+    ghost invariant = { λ d. (1 ≤ d.most)
+        × (d.room ≤ vec_capacity d.out.bytes)
+        × (d.room ≤ vec_capacity d.certs.bytes)
+        × (d.out.file ≡ None)
+        × IsPlace d.files.items d.feed.file
+        × IsPlace d.files.items d.side.file
+        × IsPlace d.files.items d.certs.file };
 }
 
 impl MemDesk {
@@ -297,7 +310,8 @@ impl MemDesk {
 
 impl Desk for MemDesk {
     ghost use Rattle.std.specs.Prelude.{refl};
-    ghost use Rattle.vx_desk.specs.Memory.{told_memory, held_by, held, next_call, left_in, sent_to, after_open, after_read, after_write};
+    ghost use Rattle.vx_desk.specs.Memory.{told_memory, held_by, held, next_call, left_in, sent_to};
+    ghost use Rattle.vx_desk.specs.Memory.{after_open, after_read, after_write};
 
     ghost told = { told_memory };
 
@@ -307,12 +321,14 @@ impl Desk for MemDesk {
 
     fn open(&mut self, slot: Slot, name: &str) -> Result<(), Failed>
         requires closed { (told_memory self.old slot).is_open ≡ false }
-        ensures opens { Opens slot name.now (held_by self.old name.now) (told_memory self.old slot) (told_memory self.new slot) result }
+        ensures opens { Opens slot name.now (held_by self.old name.now)
+            (told_memory self.old slot) (told_memory self.new slot) result }
         ensures others { ChangesOnly slot (told_memory self.old) (told_memory self.new) }
         ensures names { held_by self.new ≡ held_by self.old }
 
         // Exactly which opens fail, and what each leaves.
-        ensures fails { IsErr result ↔ (Contains self.old.fails (next_call self.old) ⊎ IsNone (held_by self.old name.now)) }
+        ensures fails { IsErr result
+            ↔ (Contains self.old.fails (next_call self.old) ⊎ IsNone (held_by self.old name.now)) }
         ensures state { self.new ≡ after_open self.old slot name.now (is_ok result) }
     {
         let fails = count_call(&mut self.calls, &self.fails);
@@ -333,7 +349,8 @@ impl Desk for MemDesk {
 
         // Exactly which reads fail, how many bytes they move, and what each leaves.
         ensures fails { IsErr result ↔ Contains self.old.fails (next_call self.old) }
-        ensures count { IfOk result (λ n. n ≡ min self.old.most (min (length buf.old) (length (left_in self.old slot)))) }
+        ensures count { IfOk result (λ n.
+            n ≡ min self.old.most (min (length buf.old) (length (left_in self.old slot)))) }
         ensures buffer { buf.new ≡ buffer_after (left_in self.old slot) buf.old result }
         ensures state { self.new ≡ after_read self.old slot result }
     {
@@ -353,8 +370,10 @@ impl Desk for MemDesk {
         ensures names { held_by self.new ≡ held_by self.old }
 
         // Exactly which writes fail, how many bytes they take, and what each leaves.
-        ensures fails { IsErr result ↔ (Contains self.old.fails (next_call self.old) ⊎ self.old.room ≤ length (sent_to self.old slot)) }
-        ensures count { IfOk result (λ n. n ≡ min self.old.most (min (length bytes.now) (self.old.room - length (sent_to self.old slot)))) }
+        ensures fails { IsErr result ↔ (Contains self.old.fails (next_call self.old)
+            ⊎ self.old.room ≤ length (sent_to self.old slot)) }
+        ensures count { IfOk result (λ n.
+            n ≡ min self.old.most (min (length bytes.now) (self.old.room - length (sent_to self.old slot)))) }
         ensures state { self.new ≡ after_write self.old slot bytes.now result }
     {
         let fails = count_call(&mut self.calls, &self.fails);

@@ -1,11 +1,13 @@
 //! Cuts what is read from a slot into lines.
 
-ghost use Rattle.std.specs.Prelude.{◌≡◌, ◌+◌, ◌-◌, ◌<◌, ◌≤◌, length, slice_range, take, drop, slice_index, Some, None, Err, true, false, [], ◌∷◌, ◌++◌, IsTrue, IfOk, MatchOption, OnOk, OnErr, ◌↔◌, ◌==◌};
+ghost use Rattle.std.specs.Prelude.{◌≡◌, ◌+◌, ◌-◌, ◌<◌, ◌≤◌, length, slice_range, take, drop, slice_index};
+ghost use Rattle.std.specs.Prelude.{Some, None, Err, true, false, [], ◌∷◌, ◌++◌, IsTrue, IfOk, MatchOption, OnOk, OnErr, ◌↔◌, ◌==◌};
 ghost use Rattle.std.specs.List.{list_any};
 ghost use Rattle.std.specs.Io.KnownBytes.{IsAtEnd};
 ghost use Rattle.vx_desk.specs.Slots.{IsReading};
 ghost use Rattle.vx_desk.specs.Told.{ChangesOnly, ChangesReads, Counts, Reads};
-ghost use Rattle.vx_desk.specs.Lines.{HasNoLf, AnswersNext, CountsReads, IsLineOrLong, holds_line, to_come, next_number};
+ghost use Rattle.vx_desk.specs.Lines.{HasNoLf, AnswersNext, CountsReads, IsLineOrLong};
+ghost use Rattle.vx_desk.specs.Lines.{holds_line, new_reader, to_come, next_number};
 ghost use Rattle.vx_desk.specs.Coming.{TakesLine, coming};
 ghost use Rattle.vx_desk.specs.Refill.{Refills, IsFirstLf, Cuts, EndsInput};
 ghost use Rattle.vx_desk.specs.declared.lines.TheConstants.{LF};
@@ -58,14 +60,20 @@ impl Model for LineReader {
       last_bytes = bytes_given r.last r.kept r.buffer.items;
     } };
 
-    ghost invariant = { λ r. (r.kept ≤ r.start) × (r.start ≤ r.end) × (r.end ≤ vec_len r.buffer) × (r.start ≤ r.kept + r.limit + 1) × (r.limit + r.limit + 1 + BLOCK ≤ vec_len r.buffer) × (r.limit ≤ LONGEST_LINE) × LiesBetween r.kept r.start r.last };
+    ghost invariant = { λ r. (r.kept ≤ r.start)
+        × (r.start ≤ r.end)
+        × (r.end ≤ vec_len r.buffer)
+        × (r.start ≤ r.kept + r.limit + 1)
+        × (r.limit + r.limit + 1 + BLOCK ≤ vec_len r.buffer)
+        × (r.limit ≤ LONGEST_LINE)
+        × LiesBetween r.kept r.start r.last };
 }
 
 impl LineReader {
     /// A reader of one slot whose lines have at most `limit` bytes.
     pub fn new(alloc: Global, slot: Slot, limit: usize) -> Result<LineReader, NoMemory>
         requires { (1 ≤ limit) × (limit ≤ LONGEST_LINE) }
-        ensures { IfOk result (λ reader. reader ≡ record { slot = slot; limit = limit; waiting = []; number = 0; is_ended = false; last = None; last_bytes = [] }) }
+        ensures { IfOk result (λ reader. reader ≡ new_reader slot limit) }
     {
         let buffer = vec![in alloc; 0u8; 2 * limit + 1 + BLOCK]?;
         Ok(LineReader {
@@ -81,18 +89,22 @@ impl LineReader {
         })
     }
 
-    /// The next line of the slot, or `None` at the end of the input or behind a line that was no line. Where `holds_line` says that one is
-    /// in hand, the desk is not called; and where a read fails, none is.
+    /// The next line of the slot, or `None` at the end of the input or behind a line that was no line.
+    /// Where `holds_line` says that one is in hand, the desk is not called; and where a read fails,
+    /// none is.
     #[tactic(auto, using(crate::proofs::ComingLemmas::takes_coming, crate::proofs::NextLemmas::ended_holds_none))]
     pub fn next<D: Desk>(&mut self, desk: &mut D) -> Result<Option<Line>, ReadFault>
         requires reading { IsReading self.old.slot }
         requires open { IsTrue (D.told desk.old self.old.slot).is_open }
-        ensures answers { AnswersNext self.old self.new (to_come self.old (D.told desk.old self.old.slot)) (to_come self.new (D.told desk.new self.old.slot)) result }
-        ensures takes { self.old.is_ended ≡ false → TakesLine (coming self.old (D.told desk.old)) (coming self.new (D.told desk.new)) self.new result }
+        ensures answers { AnswersNext self.old self.new (to_come self.old (D.told desk.old self.old.slot))
+            (to_come self.new (D.told desk.new self.old.slot)) result }
+        ensures takes { self.old.is_ended ≡ false → TakesLine
+            (coming self.old (D.told desk.old)) (coming self.new (D.told desk.new)) self.new result }
         ensures in_hand { holds_line self.old ≡ true → (desk.new ≡ desk.old) × IsLineOrLong result }
         ensures fault { result ≡ Err ReadFault.Device → holds_line self.new ≡ false }
         ensures ended { self.old.is_ended ≡ true → result ≡ Ok None }
-        ensures counts { CountsReads result (D.told desk.old self.old.slot).failed_reads (D.told desk.new self.old.slot).failed_reads }
+        ensures counts { CountsReads result (D.told desk.old self.old.slot).failed_reads
+            (D.told desk.new self.old.slot).failed_reads }
         ensures rest { ChangesReads (D.told desk.old self.old.slot) (D.told desk.new self.old.slot) }
         ensures others { ChangesOnly self.old.slot (D.told desk.old) (D.told desk.new) }
         ensures names { D.holds desk.new ≡ D.holds desk.old }
@@ -110,10 +122,12 @@ impl LineReader {
         requires reading { IsReading self.old.slot }
         requires open { IsTrue (D.told desk.old self.old.slot).is_open }
         requires ready { self.old.is_ended ≡ false }
-        ensures answers { AnswersNext self.old self.new (to_come self.old (D.told desk.old self.old.slot)) (to_come self.new (D.told desk.new self.old.slot)) result }
+        ensures answers { AnswersNext self.old self.new (to_come self.old (D.told desk.old self.old.slot))
+            (to_come self.new (D.told desk.new self.old.slot)) result }
         ensures in_hand { holds_line self.old ≡ true → (desk.new ≡ desk.old) × IsLineOrLong result }
         ensures fault { result ≡ Err ReadFault.Device → holds_line self.new ≡ false }
-        ensures counts { CountsReads result (D.told desk.old self.old.slot).failed_reads (D.told desk.new self.old.slot).failed_reads }
+        ensures counts { CountsReads result (D.told desk.old self.old.slot).failed_reads
+            (D.told desk.new self.old.slot).failed_reads }
         ensures rest { ChangesReads (D.told desk.old self.old.slot) (D.told desk.new self.old.slot) }
         ensures others { ChangesOnly self.old.slot (D.told desk.old) (D.told desk.new) }
         ensures names { D.holds desk.new ≡ D.holds desk.old }
@@ -239,8 +253,10 @@ impl LineReader {
         requires reading { IsReading self.old.slot }
         requires open { IsTrue (D.told desk.old self.old.slot).is_open }
         requires within { length self.old.waiting ≤ self.old.limit }
-        ensures refills { Refills self.old self.new (D.told desk.old self.old.slot) (D.told desk.new self.old.slot) result }
-        ensures counts { Counts result (D.told desk.old self.old.slot).failed_reads (D.told desk.new self.old.slot).failed_reads }
+        ensures refills { Refills self.old self.new
+            (D.told desk.old self.old.slot) (D.told desk.new self.old.slot) result }
+        ensures counts { Counts result (D.told desk.old self.old.slot).failed_reads
+            (D.told desk.new self.old.slot).failed_reads }
         ensures rest { ChangesReads (D.told desk.old self.old.slot) (D.told desk.new self.old.slot) }
         ensures others { ChangesOnly self.old.slot (D.told desk.old) (D.told desk.new) }
         ensures names { D.holds desk.new ≡ D.holds desk.old }

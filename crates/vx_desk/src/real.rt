@@ -2,7 +2,9 @@
 
 ghost use Rattle.std.specs.Prelude.{◌≡◌, ◌≤◌, ℕ, List, true, false, length, is_some, None, IfOk};
 ghost use Rattle.vx_desk.specs.Told.{Opens, Reads, Writes};
+ghost use Rattle.vx_desk.specs.Failures.{no_failures};
 ghost use Rattle.vx_desk.specs.Untold.{fresh_untold, untold};
+ghost use Rattle.vx_desk.specs.Devices.{told_device};
 ghost use Rattle.vx_desk.specs.declared.device.Slot.{Slot};
 
 use crate::device::{Desk, Failed, Slot};
@@ -22,7 +24,7 @@ struct Device<F> {
 impl<F: Drop> Device<F> {
     fn new() -> Device<F>
         ensures closed { is_some result.file ≡ false }
-        ensures failures { result.failures ≡ record { opens = 0; reads = 0; writes = 0 } }
+        ensures failures { result.failures ≡ no_failures }
     {
         Device {
             file: None,
@@ -33,7 +35,7 @@ impl<F: Drop> Device<F> {
     /// Keeps a file that was opened, or counts the failure.
     fn keep(&mut self, opened: io::Result<F>) -> Result<(), Failed>
         requires { is_some self.old.file ≡ false }
-        ensures { (slot : Slot) (name : List ℕ) → Opens slot name None (untold (is_some self.old.file) self.old.failures) (untold (is_some self.new.file) self.new.failures) result }
+        ensures { (slot : Slot) (name : List ℕ) → Opens slot name None (told_device self.old) (told_device self.new) result }
     {
         match opened {
             Ok(file) => {
@@ -48,7 +50,7 @@ impl<F: Drop> Device<F> {
 impl<F: Read + Drop> Device<F> {
     fn read(&mut self, buf: &mut [u8]) -> Result<usize, Failed>
         requires { is_some self.old.file ≡ true }
-        ensures { Reads buf.new (untold true self.old.failures) (untold (is_some self.new.file) self.new.failures) result }
+        ensures { Reads buf.new (untold true self.old.failures) (told_device self.new) result }
     {
         let Some(file) = &mut self.file else {
             unreachable!()
@@ -63,7 +65,7 @@ impl<F: Read + Drop> Device<F> {
 impl<F: Write + Drop> Device<F> {
     fn write(&mut self, bytes: &[u8]) -> Result<usize, Failed>
         requires { is_some self.old.file ≡ true }
-        ensures { Writes bytes.now (untold true self.old.failures) (untold (is_some self.new.file) self.new.failures) result }
+        ensures { Writes bytes.now (untold true self.old.failures) (told_device self.new) result }
     {
         let Some(file) = &mut self.file else {
             unreachable!()
@@ -122,7 +124,8 @@ impl<R: Files + Print + Drop> RealDesk<R> {
 
 /// What a write came to; one that took no byte is a failure too.
 fn count_write(outcome: io::Result<usize>, failures: &mut Failures) -> Result<usize, Failed>
-    ensures { (bytes : List ℕ) → IfOk outcome (λ n. n ≤ length bytes) → Writes bytes (untold true failures.old) (untold true failures.new) result }
+    ensures { (bytes : List ℕ) → IfOk outcome (λ n. n ≤ length bytes)
+        → Writes bytes (untold true failures.old) (untold true failures.new) result }
 {
     match outcome {
         Ok(0) | Err(_) => Err(failures.count_write()),

@@ -1,4 +1,4 @@
-use Rattle.std.proofs.Common.{◌≡◌, [], ◌∷◌, ◌++◌, refl, sym, ◌∙◌, ap, true}
+use Rattle.std.proofs.Common.{◌≡◌, [], ◌∷◌, ◌++◌, refl, ap, true}
 use Rattle.std.specs.Prelude.{is_ok, string_bytes}
 use Rattle.vx_desk.specs.Memory.{held}
 use Rattle.vx_desk.specs.MemFiles.{files_of, IsFileAt}
