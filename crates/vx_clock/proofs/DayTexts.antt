@@ -1,5 +1,6 @@
 -- The date of a day, and that the text of a day is read back.
-use Rattle.std.proofs.Common.{◌≡◌, refl, ap, subst, ◌∙◌, inl, inr, ℕ, zero, suc, ◌+◌, ◌-◌, ◌<◌, ◌≤◌, ◌⊎◌, Bool, true, false, cond, not, ◌&&◌, nat_le, int_le, ℤ, pos, negsuc, ◌≤ℤ◌, ◌<ℤ◌, ◌-ℤ◌, ◌+ℤ◌, unsigned_abs, ◌∷◌, ◌++◌, Result, Ok, Err, arith}
+use Rattle.std.proofs.Common.{◌≡◌, refl, ap, subst, ◌∙◌, inl, inr, ℕ, zero, suc, ◌+◌, ◌-◌, ◌<◌, ◌≤◌, ◌⊎◌, ◌∷◌, ◌++◌, arith}
+use Rattle.std.proofs.Common.{Bool, true, false, cond, not, ◌&&◌, nat_le, int_le, ℤ, pos, negsuc, ◌≤ℤ◌, ◌<ℤ◌, ◌-ℤ◌, ◌+ℤ◌, unsigned_abs, Result, Ok, Err}
 use Rattle.std.proofs.lemmas.Bool.{cases_lt}
 use Rattle.std.specs.Int.Signed.{le_z_yes}
 use Rattle.std.proofs.lemmas.Float.{T_from_true}
@@ -7,7 +8,8 @@ use Rattle.std.proofs.lemmas.Int.{by_lt_z}
 use Rattle.std.proofs.lemmas.Bool.Decides.{nat_tests}
 use Rattle.jiff_core.specs.Calendar.{days_in_month, IsCivilDate}
 use Rattle.jiff_core.proofs.SignedLemmas.{signed_arith}
-use Rattle.jiff_core.proofs.CalendarLemmas.{days_from_civil-day_count, day_count-lt_year, day_count-lt_month, day_count-day, day_count-next_month, day_count-next_year, day_count-last_of_year, day_count-day_of_year, days_in_month_bounds}
+use Rattle.jiff_core.proofs.CalendarLemmas.{days_from_civil-day_count, day_count-lt_year, day_count-lt_month, day_count-day}
+use Rattle.jiff_core.proofs.CalendarLemmas.{day_count-next_month, day_count-next_year, day_count-last_of_year, day_count-day_of_year, days_in_month_bounds}
 use Rattle.vx_clock.specs.declared.days.DayNo.{DayNo}
 use Rattle.vx_clock.specs.declared.days.DayFault.{DayFault}
 use Rattle.vx_clock.specs.declared.days.DayFault.TheVariants.{Year, NoSuchDay}
@@ -46,13 +48,18 @@ last_from test first (suc more) =
     elim (test (first + suc more)) as (λ t. first ≤ cond t (first + suc more) (last_holding test first more))
     [ true ↦ omega arith | false ↦ last_from test first more ]
 
--- and is the last of all, or the test fails at the next
-pub last_next : (test : ℕ → Bool) (first more : ℕ) → (last_holding test first more ≡ first + more) ⊎ ((last_holding test first more < first + more) × (test (last_holding test first more + 1) ≡ false))
+-- a number is the last of all that are tested, or the test fails at the next
+abbrev EndsTests : (ℕ → Bool) → ℕ → ℕ → Type 0
+EndsTests test last n = (n ≡ last) ⊎ ((n < last) × (test (n + 1) ≡ false))
+
+-- the last number at which a test holds does so
+pub last_next : (test : ℕ → Bool) (first more : ℕ) → EndsTests test (first + more) (last_holding test first more)
 unfolding last_holding
 last_next test first zero = inl (omega arith)
 last_next test first (suc more) = by (test (first + suc more)) refl (last_next test first more)
   where
-    by : (t : Bool) → test (first + suc more) ≡ t → (last_holding test first more ≡ first + more) ⊎ ((last_holding test first more < first + more) × (test (last_holding test first more + 1) ≡ false)) → (cond t (first + suc more) (last_holding test first more) ≡ first + suc more) ⊎ ((cond t (first + suc more) (last_holding test first more) < first + suc more) × (test (cond t (first + suc more) (last_holding test first more) + 1) ≡ false))
+    by : (t : Bool) → test (first + suc more) ≡ t → EndsTests test (first + more) (last_holding test first more)
+        → EndsTests test (first + suc more) (cond t (first + suc more) (last_holding test first more))
     by true e before = inl refl
     by false e (inl all) = let next : last_holding test first more + 1 ≡ first + suc more = omega arith in inr (omega arith, rw next e)
     by false e (inr some) = inr (omega arith, some.1)
@@ -67,11 +74,13 @@ is_at_most a b h = grind (arith, signed_arith)
 pub is_not_at_most : (a b : ℤ) → b <ℤ a → int_le a b ≡ false
 is_not_at_most a b h = grind (arith, signed_arith)
 
-at_most : (a b : ℤ) → int_le a b ≡ true → a ≤ℤ b
-at_most a b e = le_z_yes (T_from_true (int_le a b) e)
+-- what the test of at most says where it holds
+tested_at_most : (a b : ℤ) → int_le a b ≡ true → a ≤ℤ b
+tested_at_most a b e = le_z_yes (T_from_true (int_le a b) e)
 
-not_at_most : (a b : ℤ) → int_le a b ≡ false → b <ℤ a
-not_at_most a b e = by_lt_z b a (λ lt. lt) (λ le. let t = is_at_most a b le in cc)
+-- and where it fails
+tested_above : (a b : ℤ) → int_le a b ≡ false → b <ℤ a
+tested_above a b e = by_lt_z b a (λ lt. lt) (λ le. let t = is_at_most a b le in cc)
 
 -- the number of a date
 abbrev numbered : ℕ → ℕ → ℕ → DayNo
@@ -115,8 +124,14 @@ day_is y m d is =
     let days : (day_number y m d -ℤ day_number y m 1) ≡ pos (d - 1) = omega (arith, signed_arith, is.2.0) in
     rw days (omega (arith, is.2.0))
 
+-- the day of a date, as its tests find it; l is the length of its month
+abbrev day_by_tests : ℕ → ℕ → ℕ → ℕ → DayNo → Result DayNo DayFault
+day_by_tests y m d l found =
+    cond (not (nat_le 2000 y && nat_le y 2099)) (Err Year)
+    (cond ((nat_le 1 m && nat_le m 12) && (nat_le 1 d && nat_le d l)) (Ok found) (Err NoSuchDay))
+
 -- a date that there is, is in the calendar
-tested : (y m d l : ℕ) (found day : DayNo) → cond {A = Result DayNo DayFault} (not (nat_le 2000 y && nat_le y 2099)) (Err Year) (cond ((nat_le 1 m && nat_le m 12) && (nat_le 1 d && nat_le d l)) (Ok found) (Err NoSuchDay)) ≡ Ok day
+tested : (y m d l : ℕ) (found day : DayNo) → day_by_tests y m d l found ≡ Ok day
     → (2000 ≤ y) × (y ≤ 2099) × (1 ≤ m) × (m ≤ 12) × (1 ≤ d) × (d ≤ l) × (found ≡ day)
 tested y m d l found day e = grind (arith, nat_tests)
 
@@ -155,9 +170,9 @@ year_bounds day is =
     let ended : (last_holding test 2000 99 ≤ 2099) × (day.0 <ℤ day_number (last_holding test 2000 99 + 1) 1 1) =
     elim (last_next test 2000 99) [
       | inl all ↦ rw all (omega arith, omega (arith, signed_arith, is.1))
-      | inr some ↦ (omega (arith, some.0), not_at_most (day_number (last_holding test 2000 99 + 1) 1 1) day.0 some.1)
+      | inr some ↦ (omega (arith, some.0), tested_above (day_number (last_holding test 2000 99 + 1) 1 1) day.0 some.1)
     ] in
-    (low, ended.0, at_most (day_number (last_holding test 2000 99) 1 1) day.0 holds, ended.1)
+    (low, ended.0, tested_at_most (day_number (last_holding test 2000 99) 1 1) day.0 holds, ended.1)
 
 -- a day before the next year lies in December, or before it
 december : (y : ℕ) (z : ℤ) → z <ℤ day_number (y + 1) 1 1 → z <ℤ (day_number y 12 1 +ℤ pos (days_in_month (pos y) 12))
@@ -187,11 +202,13 @@ month_bounds y z began before =
     let ended : (last_holding test 1 11 ≤ 12) × (z <ℤ (day_number y (last_holding test 1 11) 1 +ℤ pos (days_in_month (pos y) (last_holding test 1 11)))) =
     elim (last_next test 1 11) [
       | inl all ↦ rw all (omega arith, december y z before)
-      | inr some ↦ (omega (arith, some.0), within y (last_holding test 1 11) z low (not_at_most (day_number y (last_holding test 1 11 + 1) 1) z some.1))
+      | inr some ↦ (omega (arith, some.0), within y (last_holding test 1 11) z low (tested_above (day_number y (last_holding test 1 11 + 1) 1) z some.1))
     ] in
-    (low, ended.0, at_most (day_number y (last_holding test 1 11) 1) z holds, ended.1)
+    (low, ended.0, tested_at_most (day_number y (last_holding test 1 11) 1) z holds, ended.1)
 
-month_of_bounds : (day : DayNo) → IsDayInRange day → (1 ≤ month_of day) × (month_of day ≤ 12) × (day_number (year_of day) (month_of day) 1 ≤ℤ day.0) × (day.0 <ℤ (day_number (year_of day) (month_of day) 1 +ℤ pos (days_in_month (pos (year_of day)) (month_of day))))
+month_of_bounds : (day : DayNo) → IsDayInRange day → (1 ≤ month_of day) × (month_of day ≤ 12)
+    × (day_number (year_of day) (month_of day) 1 ≤ℤ day.0)
+    × (day.0 <ℤ (day_number (year_of day) (month_of day) 1 +ℤ pos (days_in_month (pos (year_of day)) (month_of day))))
 unfolding month_of
 month_of_bounds day is = let year = year_bounds day is in month_bounds (year_of day) day.0 year.2 year.3
 
@@ -200,7 +217,9 @@ absolute : (z : ℤ) → pos 0 ≤ℤ z → z ≡ pos (unsigned_abs z)
 absolute (pos n) low = refl
 absolute (negsuc n) low = absurd (omega (arith, signed_arith))
 
-day_in_month_bounds : (day : DayNo) → IsDayInRange day → (1 ≤ day_in_month day) × (day_in_month day ≤ days_in_month (pos (year_of day)) (month_of day)) × (day.0 ≡ (day_number (year_of day) (month_of day) 1 +ℤ pos (day_in_month day - 1)))
+day_in_month_bounds : (day : DayNo) → IsDayInRange day → (1 ≤ day_in_month day)
+    × (day_in_month day ≤ days_in_month (pos (year_of day)) (month_of day))
+    × (day.0 ≡ (day_number (year_of day) (month_of day) 1 +ℤ pos (day_in_month day - 1)))
 unfolding day_in_month
 day_in_month_bounds day is =
     let month = month_of_bounds day is in
@@ -209,8 +228,8 @@ day_in_month_bounds day is =
     let same : (day.0 -ℤ first) ≡ pos (unsigned_abs (day.0 -ℤ first)) = absolute (day.0 -ℤ first) nonnegative in
     (omega arith, omega (arith, signed_arith, month.3, same), omega (arith, signed_arith, same))
 
--- the tests of a date that there is; l is the length of its month
-passes : (y m d l : ℕ) (found : DayNo) → 2000 ≤ y → y ≤ 2099 → 1 ≤ m → m ≤ 12 → 1 ≤ d → d ≤ l → cond {A = Result DayNo DayFault} (not (nat_le 2000 y && nat_le y 2099)) (Err Year) (cond ((nat_le 1 m && nat_le m 12) && (nat_le 1 d && nat_le d l)) (Ok found) (Err NoSuchDay)) ≡ Ok found
+-- a date of the calendar passes its tests
+passes : (y m d l : ℕ) (found : DayNo) → 2000 ≤ y → y ≤ 2099 → 1 ≤ m → m ≤ 12 → 1 ≤ d → d ≤ l → day_by_tests y m d l found ≡ Ok found
 passes y m d l found a b e f g h = grind (arith, nat_tests)
 
 number_is : (y m d : ℕ) (z : ℤ) → 1 ≤ d → z ≡ (day_number y m 1 +ℤ pos (d - 1)) → day_number y m d ≡ z

@@ -4,7 +4,7 @@
 ghost use Rattle.std.specs.Prelude.{◌≡◌, ℕ, ◌+◌, ◌≤◌, pos, ◌+ℤ◌, List};
 ghost use Rattle.jiff_core.specs.Calendar.{days_in_month};
 ghost use Rattle.vx_clock.specs.declared.days.DayNo.{DayNo};
-ghost use Rattle.vx_clock.specs.declared.limits.TheConstants.{DAY_MIN, DAY_MAX};
+ghost use Rattle.vx_clock.specs.declared.limits.TheConstants.{DAY_MIN, DAY_MAX, YEAR_MIN, YEAR_MAX};
 ghost use Rattle.vx_clock.specs.declared.terms.Expiry.{Expiry};
 ghost use Rattle.vx_clock.specs.Day.{day_number};
 ghost use Rattle.vx_clock.specs.Minutes.{minutes_between};
@@ -23,10 +23,10 @@ pub fn days_are_counted()
     ensures next_year { (year : ℕ) → day_number (year + 1) 1 1 ≡ day_number year 12 31 +ℤ pos 1 }
 {}
 
-/// The range of days is that of the years 2000 to 2099.
+/// The range of days is that of the years from `YEAR_MIN` to `YEAR_MAX`.
 pub fn days_in_range()
-    ensures first { day_number 2000 1 1 ≡ DAY_MIN }
-    ensures last { day_number 2099 12 31 ≡ DAY_MAX }
+    ensures first { day_number YEAR_MIN 1 1 ≡ DAY_MIN }
+    ensures last { day_number YEAR_MAX 12 31 ≡ DAY_MAX }
 {}
 
 /// There is at most one near term, and at most one next term.
