@@ -126,8 +126,8 @@ module _ (p : StrikeRow → Bool) (level : ℕ) (rows : List StrikeRow) (place :
       ]
 
 -- at the end of the rows none of the stated ones may be left
-pub none_left : (level : ℕ) (stated : List CertRow) (next : ℕ) → next ≤ length stated → AreSame level (drop next stated) [] ↔ (next ≡ length stated)
-none_left level stated next within = (
+pub same_as_no_row : (level : ℕ) (stated : List CertRow) (next : ℕ) → next ≤ length stated → AreSame level (drop next stated) [] ↔ (next ≡ length stated)
+same_as_no_row level stated next within = (
   λ e. elim (cases_lt next (length stated)) [ inl less ↦ absurd (longer (drop next stated) e (omega (arith, length-drop next stated))) | inr past ↦ omega arith ],
   λ e. ap (map stated_price) (drop_all next stated (omega arith)),
 ) where
@@ -181,5 +181,5 @@ pub at_the_end : (p : StrikeRow → Bool) (level : ℕ) (rows : List StrikeRow) 
     → AreSame level (drop next stated) (filter p (drop place rows)) ↔ (next ≡ length stated)
 at_the_end p level rows place stated next past within =
     let none : filter p (drop place rows) ≡ [] = ap (filter p) (drop_all place rows past) in
-    let both = none_left level stated next within in
+    let both = same_as_no_row level stated next within in
     (λ e. both.0 (e ∙ ap (map (strip_price_of level)) none), λ e. both.1 e ∙ sym (ap (map (strip_price_of level)) none))

@@ -139,7 +139,8 @@ fn is_reciprocal(scale: u32, low: i128, high: i128, e: Ends) -> bool
     requires low { (pos 0 ≤ℤ low) × ((pos 4 *ℤ low) ≤ℤ pos (5 * 2 ^ scale)) }
     requires high { (pos 0 ≤ℤ high) × ((pos 4 *ℤ high) ≤ℤ pos (5 * 2 ^ scale)) }
     requires in_range { IsExponentialInRange scale e }
-    ensures { IsTrue result ↔ (((e.lo *ℤ high) ≤ℤ pos (2 ^ scale * 2 ^ scale)) × (pos (2 ^ scale * 2 ^ scale) ≤ℤ (e.hi *ℤ low))) }
+    ensures { IsTrue result ↔ (((e.lo *ℤ high) ≤ℤ pos (2 ^ scale * 2 ^ scale))
+        × (pos (2 ^ scale * 2 ^ scale) ≤ℤ (e.hi *ℤ low))) }
 {
     is_below_reciprocal(scale, e.lo, high) && is_above_reciprocal(scale, e.hi, low)
 }

@@ -2,7 +2,8 @@
 
 ghost use Rattle.std.specs.Prelude.{◌≡◌, ◌+◌, ◌*◌, ◌^◌, ◌<◌, ◌≤◌, ◌↔◌, IsTrue, pos, ◌-ℤ◌, ◌*ℤ◌, ◌≤ℤ◌, ◌<ℤ◌};
 ghost use Rattle.vx_claims.specs.TermTests.{IsWithin};
-ghost use Rattle.vx_claims.specs.FigureTests.{EnclosesSquare, EnclosesSingleSquare, EnclosesIndex, ForBothEnds, span, weighted};
+ghost use Rattle.vx_claims.specs.FigureTests.{EnclosesSquare, EnclosesSingleSquare, EnclosesIndex};
+ghost use Rattle.vx_claims.specs.FigureTests.{ForBothEnds, span, weighted};
 ghost use Rattle.vx_tests.specs.Ranges.{IsVarianceInRange, IsSquareInRange};
 ghost use Rattle.vx_tests.specs.Figures.{IsBetween, ArePrintedEnds, AreSquaresAround, RoundsTo};
 
@@ -57,7 +58,9 @@ fn is_square_around(scale: u32, m: JoinedMinutes, near: Ends, next: Ends, x: End
     requires next { IsVarianceInRange scale next }
     requires square { IsSquareInRange scale x }
     ensures { IsTrue result ↔ ForBothEnds near (λ y. ForBothEnds next (λ z. IsBetween
-        (x.lo *ℤ span m.target m.near m.next) (weighted m.target m.near m.next y z) (x.hi *ℤ span m.target m.near m.next))) }
+        (x.lo *ℤ span m.target m.near m.next)
+        (weighted m.target m.near m.next y z)
+        (x.hi *ℤ span m.target m.near m.next))) }
 {
     let low = times_span(scale, x.lo, m);
     let high = times_span(scale, x.hi, m);

@@ -30,7 +30,8 @@ fn are_around(f: Ends, low: i128, high: i128) -> bool
 
 fn are_in_range(scale: u32, f: Ends) -> bool
     requires { scale ≤ SCALE }
-    ensures { IsTrue result ↔ (IsWithin (2 ^ (scale + FORWARD_BITS)) f.lo × IsWithin (2 ^ (scale + FORWARD_BITS)) f.hi) }
+    ensures { IsTrue result ↔ (IsWithin (2 ^ (scale + FORWARD_BITS)) f.lo
+        × IsWithin (2 ^ (scale + FORWARD_BITS)) f.hi) }
 {
     is_forward_in_range(scale, f.lo) && is_forward_in_range(scale, f.hi)
 }
@@ -87,7 +88,8 @@ pub fn encloses_excess(scale: u32, f: Ends, k0: u32, g: Ends) -> bool
 fn is_excess_around(scale: u32, f: Ends, k0: u32, g: Ends) -> bool
     requires scale { scale ≤ SCALE }
     requires excess { IsExcessInRange scale g }
-    ensures { IsTrue result ↔ (((g.lo *ℤ pos k0) ≤ℤ (f.lo -ℤ pos (k0 * 2 ^ scale))) × ((f.hi -ℤ pos (k0 * 2 ^ scale)) ≤ℤ (g.hi *ℤ pos k0))) }
+    ensures { IsTrue result ↔ (((g.lo *ℤ pos k0) ≤ℤ (f.lo -ℤ pos (k0 * 2 ^ scale)))
+        × ((f.hi -ℤ pos (k0 * 2 ^ scale)) ≤ℤ (g.hi *ℤ pos k0))) }
 {
     is_excess_below(scale, g.lo, k0, f.lo) && is_excess_above(scale, g.hi, k0, f.hi)
 }

@@ -41,7 +41,8 @@ fn any_has_strike(rows: &[StrikeRow], k0: u32) -> bool
 
 fn are_others_above(scale: u32, rows: &[StrikeRow], forward: i128, k0: u32) -> bool
     requires { scale ≤ SCALE }
-    ensures { IsTrue result ↔ ((strike : ℕ) → IsListed rows.now strike → k0 < strike → forward <ℤ pos (strike * 2 ^ scale)) }
+    ensures { IsTrue result ↔ ((strike : ℕ) → IsListed rows.now strike → k0 < strike
+        → forward <ℤ pos (strike * 2 ^ scale)) }
 {
     are_all_above(scale, rows, forward, k0)
 }

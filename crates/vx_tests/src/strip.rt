@@ -38,7 +38,8 @@ fn has_rows_around(stated: &[CertRow], k0: u32) -> bool
 /// The stated rows are the strip selected at the level that stands at a place.
 fn is_strip(rows: &[StrikeRow], level: usize, stated: &[CertRow]) -> bool
     requires { level < length rows.now }
-    ensures { StrikesRise rows.now → (IsTrue result ↔ (map stated_entry stated.now ≡ strip rows.now (strike_at rows.now level))) }
+    ensures { StrikesRise rows.now → (IsTrue result
+        ↔ (map stated_entry stated.now ≡ strip rows.now (strike_at rows.now level))) }
 {
     are_selected(rows, reach_of(rows, level), stated) && are_widths(stated)
 }
@@ -104,8 +105,10 @@ fn next_after(
     requires there { place < length rows.now }
     requires within { next ≤ length stated.now }
     ensures within { IfSome result (λ after. after ≤ length stated.now) }
-    ensures step { StrikesRise rows.now → MatchOption result (AreSameFrom rows.now reach.level place stated.now next → ⊥)
-        (λ after. AreSameFrom rows.now reach.level place stated.now next ↔ AreSameFrom rows.now reach.level (place + 1) stated.now after) }
+    ensures step { StrikesRise rows.now → MatchOption result
+        (AreSameFrom rows.now reach.level place stated.now next → ⊥)
+        (λ after. AreSameFrom rows.now reach.level place stated.now next
+        ↔ AreSameFrom rows.now reach.level (place + 1) stated.now after) }
 {
     if !is_taken(rows, reach, place) {
         return Some(next);

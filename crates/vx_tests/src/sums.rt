@@ -42,7 +42,8 @@ fn is_row_in_range(scale: u32, row: &CertRow) -> bool
 fn is_low_end(scale: u32, row: &CertRow) -> bool
     requires low { 2 ≤ scale }
     requires high { scale ≤ SCALE }
-    ensures { IsTrue result ↔ (row.now.lo * (4 * (row.now.strike * row.now.strike)) ≤ 5 * (row.now.d * row.now.q4) * 2 ^ scale) }
+    ensures { IsTrue result ↔ (row.now.lo * (4 * (row.now.strike * row.now.strike))
+        ≤ 5 * (row.now.d * row.now.q4) * 2 ^ scale) }
 {
     times_square(row.lo, row.strike) <= contribution(scale, row)
 }
@@ -50,7 +51,8 @@ fn is_low_end(scale: u32, row: &CertRow) -> bool
 fn is_high_end(scale: u32, row: &CertRow) -> bool
     requires low { 2 ≤ scale }
     requires high { scale ≤ SCALE }
-    ensures { IsTrue result ↔ (5 * (row.now.d * row.now.q4) * 2 ^ scale ≤ row.now.hi * (4 * (row.now.strike * row.now.strike))) }
+    ensures { IsTrue result ↔ (5 * (row.now.d * row.now.q4) * 2 ^ scale
+        ≤ row.now.hi * (4 * (row.now.strike * row.now.strike))) }
 {
     contribution(scale, row) <= times_square(row.hi, row.strike)
 }

@@ -35,7 +35,8 @@ pub fn meets(scale: u32, seen: &SeenTerm, term: &CertTerm, test: Test) -> bool
     requires least { 2 ≤ scale }
     requires most { scale ≤ SCALE }
     requires earlier { AreNumbersMet scale term.now test }
-    ensures exact { StrikesRise seen.now.rows.now → (IsTrue result ↔ TermMeets scale (facts_of seen.now) term.now test) }
+    ensures exact { StrikesRise seen.now.rows.now
+        → (IsTrue result ↔ TermMeets scale (facts_of seen.now) term.now test) }
     ensures numbers { IsTrue result → NumbersMeet scale term.now test }
 {
     match test {
@@ -67,7 +68,8 @@ fn exponent(term: &CertTerm) -> u64
 
 fn meets_level(scale: u32, rows: &[StrikeRow], term: &CertTerm) -> bool
     requires { scale ≤ SCALE }
-    ensures { IsTrue result ↔ (IsLevelOfEnds scale rows.now term.now.f term.now.k0 × HasStrikeAbove rows.now term.now.k0) }
+    ensures { IsTrue result ↔ (IsLevelOfEnds scale rows.now term.now.f term.now.k0
+        × HasStrikeAbove rows.now term.now.k0) }
 {
     is_level_of_ends(scale, rows, term.f, term.k0) && has_strike_above(rows, term.k0)
 }
