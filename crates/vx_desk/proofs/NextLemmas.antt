@@ -1,5 +1,6 @@
 -- Steps and answers of `next`, over what is told of its slot.
-use Rattle.std.proofs.Common.{◌≡◌, ◌≢◌, ℕ, ◌+◌, ◌<◌, ◌≤◌, Bool, true, false, List, [], ◌∷◌, ◌++◌, length, take, drop, Option, Some, None, Result, Ok, Err, refl, sym, ◌∙◌, ap, subst, arith}
+use Rattle.std.proofs.Common.{◌≡◌, ◌≢◌, ℕ, ◌+◌, ◌<◌, ◌≤◌, Bool, true, false, List, [], ◌∷◌, ◌++◌, length, take, drop, Option, Some, None, Result, Ok}
+use Rattle.std.proofs.Common.{Err, refl, sym, ◌∙◌, ap, subst, arith}
 use Rattle.std.specs.Prelude.{IfSome, IsTrue, MatchOption, ◌↔◌, not, ◌&&◌, ◌==◌, nat_lt}
 use Rattle.std.specs.List.{list_any}
 use Rattle.std.proofs.lemmas.Bool.Decides.{nat_tests}
@@ -13,7 +14,8 @@ use Rattle.vx_desk.specs.declared.lines.ReadFault.{ReadFault}
 use Rattle.vx_desk.specs.declared.lines.ReadFault.TheVariants.{Device, LineTooLong}
 use Rattle.vx_desk.specs.declared.lines.TheConstants.{LF}
 use Rattle.vx_desk.specs.Told.{Told, ChangesReads, ChangesOnly}
-use Rattle.vx_desk.specs.Lines.{ReaderState, to_come, HasNoLf, IsTooLong, IsCutOff, next_number, GivesLine, GivesNone, AnswersNext, CountsReads, IsLineOrLong, holds_line}
+use Rattle.vx_desk.specs.Lines.{ReaderState, to_come, HasNoLf, IsTooLong, IsCutOff, next_number, GivesLine, GivesNone, AnswersNext, CountsReads}
+use Rattle.vx_desk.specs.Lines.{IsLineOrLong, holds_line}
 use Rattle.vx_desk.specs.Refill.{IsFirstLf, Refills, IsCut, Cuts, EndsInput}
 use Rattle.vx_desk.proofs.ReaderLemmas.{prepend_known-append, no_lf_passes}
 
@@ -56,7 +58,8 @@ ReadsOn-start old now t is open_yet =
     }
 
 -- one more read that fills the buffer
-pub ReadsOn-more : (old now new : ReaderState) (before mid after : Told) (result : Result ℕ Failed) → ReadsOn old now before mid → Refills now new mid after result → after.failed_reads ≡ mid.failed_reads → ChangesReads mid after → ReadsOn old new before after
+pub ReadsOn-more : (old now new : ReaderState) (before mid after : Told) (result : Result ℕ Failed) → ReadsOn old now before mid
+    → Refills now new mid after result → after.failed_reads ≡ mid.failed_reads → ChangesReads mid after → ReadsOn old new before after
 ReadsOn-more old now new before mid after result on more counts rest = record {
   state = more.state ∙ ap (λ (s : ReaderState). record s { waiting = new.waiting }) on.state;
   open_yet = on.open_yet;
@@ -71,7 +74,8 @@ split_at_lf xs place lf =
     sym (take-append-drop place xs) ∙ (ap (λ ys. take place xs ++ ys) (drop_more xs place 0 lf.within ∙ ap (λ b. b ∷ drop (place + 1) xs) lf.lf) ∙ sym (append_assoc (take place xs) (LF ∷ []) (drop (place + 1) xs)))
 
 -- the line that is cut off is the first of the bytes to come
-pub gives_line : (old now new : ReaderState) (before after : Told) (place : ℕ) (line : Line) → ReadsOn old now before after → IsFirstLf now.waiting place → IsCut now new place line → GivesLine old new (to_come old before) (to_come new after) line
+pub gives_line : (old now new : ReaderState) (before after : Told) (place : ℕ) (line : Line) → ReadsOn old now before after
+    → IsFirstLf now.waiting place → IsCut now new place line → GivesLine old new (to_come old before) (to_come new after) line
 gives_line old now new before after place line on lf cut =
     let number = ap (λ (s : ReaderState). s.number) on.state in
     let bytes = ap (λ (s : ReaderState). s.last_bytes) cut.state in
@@ -93,7 +97,8 @@ gives_line old now new before after place line on lf cut =
     }
 
 -- a call that gives no line after it read on
-gives_none : (old now new : ReaderState) (before after : Told) → ReadsOn old now before after → new.number ≡ now.number → new.last ≡ now.last → new.last_bytes ≡ now.last_bytes → new.waiting ≡ now.waiting → GivesNone old new (to_come old before) (to_come new after)
+gives_none : (old now new : ReaderState) (before after : Told) → ReadsOn old now before after → new.number ≡ now.number → new.last ≡ now.last
+    → new.last_bytes ≡ now.last_bytes → new.waiting ≡ now.waiting → GivesNone old new (to_come old before) (to_come new after)
 gives_none old now new before after on number last bytes waiting = record {
   number = number ∙ ap (λ (s : ReaderState). s.number) on.state;
   last = last ∙ ap (λ (s : ReaderState). s.last) on.state;
@@ -101,6 +106,7 @@ gives_none old now new before after on number last bytes waiting = record {
   kept = ap (λ xs. prepend_known xs after.left) waiting ∙ on.come;
 }
 
+-- waiting bytes that are too many for a line stay so with what is to come behind them
 too_long_before : (limit : ℕ) (waiting : List ℕ) (known : Option (List ℕ)) → IsTooLong limit waiting → IfSome (prepend_known waiting known) (IsTooLong limit)
 too_long_before limit waiting None h = tt
 too_long_before limit waiting (Some rest) h = record {
@@ -109,7 +115,9 @@ too_long_before limit waiting (Some rest) h = record {
 }
 
 -- too many bytes wait with no LF
-pub ends_too_long : (old now new : ReaderState) (before after : Told) (fault : ReadFault) → ReadsOn old now before after → IsTooLong now.limit now.waiting → fault ≡ LineTooLong (next_number now.number) → new ≡ record now { is_ended = true } → AnswersNext old new (to_come old before) (to_come new after) (Err fault)
+pub ends_too_long : (old now new : ReaderState) (before after : Told) (fault : ReadFault) → ReadsOn old now before after
+    → IsTooLong now.limit now.waiting → fault ≡ LineTooLong (next_number now.number) → new ≡ record now { is_ended = true }
+    → AnswersNext old new (to_come old before) (to_come new after) (Err fault)
 ends_too_long old now new before after fault on long is ended =
     let number = ap (λ (s : ReaderState). s.number) on.state in
     let limit : now.limit ≡ old.limit = ap (λ (s : ReaderState). s.limit) on.state in
@@ -132,22 +140,29 @@ pub is_too_long : (limit : ℕ) (waiting : List ℕ) → limit < length waiting 
 is_too_long limit waiting more no_lf = record { more = more; no_lf = All-take (λ byte. byte ≢ LF) (limit + 1) waiting no_lf }
 
 -- the answer at a cut
-pub answers_cut : (old now new : ReaderState) (before after : Told) (place : ℕ) (result : Result (Option Line) ReadFault) → ReadsOn old now before after → IsFirstLf now.waiting place → Cuts now new place result → AnswersNext old new (to_come old before) (to_come new after) result
+pub answers_cut : (old now new : ReaderState) (before after : Told) (place : ℕ) (result : Result (Option Line) ReadFault)
+    → ReadsOn old now before after → IsFirstLf now.waiting place → Cuts now new place result
+    → AnswersNext old new (to_come old before) (to_come new after) result
 answers_cut old now new before after place (Ok None) on lf cut = absurd cut
 answers_cut old now new before after place (Ok (Some line)) on lf cut = gives_line old now new before after place line on lf cut
 answers_cut old now new before after place (Err fault) on lf cut =
     ends_too_long old now new before after fault on (is_too_long_at now.limit place now.waiting cut.0 lf) cut.1 cut.2
 
+-- no waiting bytes leave a text that is at its end there
 at_end_before : (known : Option (List ℕ)) → IsAtEnd known → IsAtEnd (prepend_known [] known)
 at_end_before None h = tt
 at_end_before (Some xs) h = h
 
-cut_off_before : (limit : ℕ) (waiting : List ℕ) (known : Option (List ℕ)) → IsAtEnd known → IsCutOff limit waiting → IfSome (prepend_known waiting known) (IsCutOff limit)
+-- waiting bytes with no LF are the whole text where nothing comes behind them
+cut_off_before : (limit : ℕ) (waiting : List ℕ) (known : Option (List ℕ)) → IsAtEnd known → IsCutOff limit waiting
+    → IfSome (prepend_known waiting known) (IsCutOff limit)
 cut_off_before limit waiting None e h = tt
 cut_off_before limit waiting (Some xs) e h = subst (IsCutOff limit) (sym (append-nil waiting) ∙ ap (λ ys. waiting ++ ys) (sym e)) h
 
 -- the answer at the end of the input
-pub answers_end : (old now new : ReaderState) (before after : Told) (result : Result (Option Line) ReadFault) → ReadsOn old now before after → IsAtEnd after.left → HasNoLf now.waiting → length now.waiting ≤ now.limit → EndsInput now new result → AnswersNext old new (to_come old before) (to_come new after) result
+pub answers_end : (old now new : ReaderState) (before after : Told) (result : Result (Option Line) ReadFault) → ReadsOn old now before after
+    → IsAtEnd after.left → HasNoLf now.waiting → length now.waiting ≤ now.limit → EndsInput now new result
+    → AnswersNext old new (to_come old before) (to_come new after) result
 answers_end old now new before after (Ok line) on end no_lf fits h =
     let none = gives_none old now new before after on (ap (λ (s : ReaderState). s.number) h.2) (ap (λ (s : ReaderState). s.last) h.2) (ap (λ (s : ReaderState). s.last_bytes) h.2) (ap (λ (s : ReaderState). s.waiting) h.2) in
     rw h.0 (
@@ -167,7 +182,8 @@ answers_end old now new before after (Err fault) on end no_lf fits h =
     )
 
 -- the answer where the device failed
-pub answers_device : (old now new : ReaderState) (before mid after : Told) (e : Failed) → ReadsOn old now before mid → Refills now new mid after (Err e) → AnswersNext old new (to_come old before) (to_come new after) (Err Device)
+pub answers_device : (old now new : ReaderState) (before mid after : Told) (e : Failed) → ReadsOn old now before mid
+    → Refills now new mid after (Err e) → AnswersNext old new (to_come old before) (to_come new after) (Err Device)
 answers_device old now new before mid after e on more =
     let state : new ≡ with_waiting old new.waiting = more.state ∙ ap (λ (s : ReaderState). record s { waiting = new.waiting }) on.state in (
       record {
@@ -181,12 +197,14 @@ answers_device old now new before mid after e on more =
     )
 
 -- a cut reads nothing, and names no device
-pub counts_cut : (now new : ReaderState) (place : ℕ) (result : Result (Option Line) ReadFault) (old count : ℕ) → Cuts now new place result → count ≡ old → CountsReads result old count
+pub counts_cut : (now new : ReaderState) (place : ℕ) (result : Result (Option Line) ReadFault) (old count : ℕ) → Cuts now new place result
+    → count ≡ old → CountsReads result old count
 counts_cut now new place (Ok line) old count cut same = same
 counts_cut now new place (Err fault) old count cut same = rw cut.1 same
 
 -- the end of the input names no device
-pub counts_end : (now new : ReaderState) (result : Result (Option Line) ReadFault) (old count : ℕ) → EndsInput now new result → count ≡ old → CountsReads result old count
+pub counts_end : (now new : ReaderState) (result : Result (Option Line) ReadFault) (old count : ℕ) → EndsInput now new result → count ≡ old
+    → CountsReads result old count
 counts_end now new (Ok line) old count end same = same
 counts_end now new (Err fault) old count end same = rw end.1 same
 
@@ -212,19 +230,22 @@ still_not_held now new before after past e none short is refills =
     ap holds_line same ∙ not_held now none (grind arith)
 
 -- a search that found nothing leaves no LF
-pub none_found : (bytes : List ℕ) (found : Option ℕ) → MatchOption found (HasNoLf bytes) (IsFirstLf bytes) → ((place : ℕ) → found ≡ Some place → ⊥) → HasNoLf bytes
+pub none_found : (bytes : List ℕ) (found : Option ℕ) → MatchOption found (HasNoLf bytes) (IsFirstLf bytes) → ((place : ℕ) → found ≡ Some place → ⊥)
+    → HasNoLf bytes
 none_found bytes None none not_some = none
 none_found bytes (Some place) lf not_some = absurd (not_some place refl)
 
 -- a reader that holds a line needs no read for it: what follows where none is found
-pub held_is_found : {A D : Type 0} (old now : ReaderState) (first desk : D) (past : Bool) → (holds_line old ≡ true → (desk ≡ first) × (now ≡ old)) → HasNoLf now.waiting
+pub held_is_found : {A D : Type 0} (old now : ReaderState) (first desk : D) (past : Bool) → (holds_line old ≡ true → (desk ≡ first) × (now ≡ old))
+    → HasNoLf now.waiting
     → past ≡ false → (IsTrue past ↔ (now.limit < length now.waiting)) → holds_line old ≡ true → A
 held_is_found old now first desk past same none short is held =
     let few : now.limit < length now.waiting → ⊥ = λ long. let clash : true ≡ false = sym (is.1 long) ∙ short in cc in
     let clash : true ≡ false = sym (ap holds_line (same held).1 ∙ held) ∙ not_held now none (grind arith) in cc
 
 -- one read more, at the slot of the reader that the call began with
-pub reads_once_more : (old now new : ReaderState) (first mid last : Slot → Told) (count : ℕ) → ReadsOn old now (first old.slot) (mid old.slot) → Refills now new (mid now.slot) (last now.slot) (Ok count)
+pub reads_once_more : (old now new : ReaderState) (first mid last : Slot → Told) (count : ℕ) → ReadsOn old now (first old.slot) (mid old.slot)
+    → Refills now new (mid now.slot) (last now.slot) (Ok count)
     → (last now.slot).failed_reads ≡ (mid now.slot).failed_reads → ChangesReads (mid now.slot) (last now.slot) → ReadsOn old new (first old.slot) (last old.slot)
 reads_once_more old now new first mid last count on more counts rest =
     let slot : now.slot ≡ old.slot = ap (λ (s : ReaderState). s.slot) on.state in
@@ -234,7 +255,8 @@ reads_once_more old now new first mid last count on more counts rest =
     (subst (λ s. ChangesReads (mid s) (last s)) slot rest)
 
 -- the slots that are not read are as they were
-pub others_once_more : (old now new : ReaderState) (first mid last : Slot → Told) → now ≡ with_waiting old now.waiting → ChangesOnly old.slot first mid → ChangesOnly now.slot mid last → ChangesOnly old.slot first last
+pub others_once_more : (old now new : ReaderState) (first mid last : Slot → Told) → now ≡ with_waiting old now.waiting
+    → ChangesOnly old.slot first mid → ChangesOnly now.slot mid last → ChangesOnly old.slot first last
 others_once_more old now new first mid last is before more =
     let slot : now.slot ≡ old.slot = ap (λ (s : ReaderState). s.slot) is in
     λ other ne. subst (λ s. ChangesOnly s mid last) slot more other ne ∙ before other ne

@@ -1,5 +1,6 @@
 -- Lines and blocks of a reader, over plain lists.
-use Rattle.std.proofs.Common.{◌≡◌, ◌≢◌, ℕ, ◌+◌, ◌-◌, ◌<◌, ◌≤◌, zero-le, List, [], ◌∷◌, ◌++◌, zero, suc, true, false, length, take, drop, get_or, Option, Some, None, MatchOption, refl, sym, ◌∙◌, ap, subst, arith, eq-eqb, eqb-true}
+use Rattle.std.proofs.Common.{◌≡◌, ◌≢◌, ℕ, ◌+◌, ◌-◌, ◌<◌, ◌≤◌, zero-le, List, [], ◌∷◌, ◌++◌, zero, suc, true, false, length, take, drop, get_or}
+use Rattle.std.proofs.Common.{Option, Some, None, MatchOption, refl, sym, ◌∙◌, ap, subst, arith, eq-eqb, eqb-true}
 use Rattle.std.specs.Prelude.{slice_range, Ok, Err, is_some, ◌==◌, ◌||◌}
 use Rattle.std.specs.List.{list_any}
 use Rattle.std.proofs.lemmas.Bool.Decides.{nat_tests}
@@ -28,7 +29,8 @@ no_lf_before xs n h =
     h i zero-le below (passes xs i (sym (get_or-take n xs i 0 below) ∙ e)))
 
 -- a search from `searched` on finds the first LF of all the bytes, where those before have none
-pub first_lf : (waiting hay : List ℕ) (searched : ℕ) (r : Option ℕ) → searched ≤ length waiting → hay ≡ drop searched waiting → HasNoLf (take searched waiting) → IsFirstByte (is_byte LF) hay r → MatchOption r (HasNoLf waiting) (λ at. IsFirstLf waiting (searched + at))
+pub first_lf : (waiting hay : List ℕ) (searched : ℕ) (r : Option ℕ) → searched ≤ length waiting → hay ≡ drop searched waiting
+    → HasNoLf (take searched waiting) → IsFirstByte (is_byte LF) hay r → MatchOption r (HasNoLf waiting) (λ at. IsFirstLf waiting (searched + at))
 first_lf waiting hay searched None within is passed found =
     let rest : HasNoLf hay = subst HasNoLf (take_all (length hay) hay (omega arith)) (no_lf_before hay (length hay) found) in
     subst HasNoLf (ap (λ ys. take searched waiting ++ ys) is ∙ take-append-drop searched waiting)
@@ -51,13 +53,16 @@ pub slice_range-fits : (start n end : ℕ) (xs part : List ℕ) → part ≡ sli
 slice_range-fits start n end xs part is le ordered = omega (arith, ap length is, length-take (end - start) (drop start xs))
 
 -- a search in the part of a buffer that waits, from `searched` on
-pub first_lf_of_part : (waiting items : List ℕ) (start searched end : ℕ) (r : Option ℕ) → waiting ≡ slice_range items start end → start ≤ end → searched ≤ length waiting → HasNoLf (take searched waiting) → IsFirstByte (is_byte LF) (slice_range items (start + searched) end) r → MatchOption r (HasNoLf waiting) (λ at. IsFirstLf waiting (searched + at))
+pub first_lf_of_part : (waiting items : List ℕ) (start searched end : ℕ) (r : Option ℕ) → waiting ≡ slice_range items start end → start ≤ end
+    → searched ≤ length waiting → HasNoLf (take searched waiting) → IsFirstByte (is_byte LF) (slice_range items (start + searched) end) r
+    → MatchOption r (HasNoLf waiting) (λ at. IsFirstLf waiting (searched + at))
 first_lf_of_part waiting items start searched end r is ordered within passed found =
     first_lf waiting (slice_range items (start + searched) end) searched r within
     (drop-slice_range items start searched end (slice_range-fits start searched end items waiting is within ordered) ∙ ap (drop searched) (sym is)) passed found
 
 -- two states whose parts are equal are equal
-pub same_state : (a b : ReaderState) → a.slot ≡ b.slot → a.limit ≡ b.limit → a.waiting ≡ b.waiting → a.number ≡ b.number → a.is_ended ≡ b.is_ended → a.last ≡ b.last → a.last_bytes ≡ b.last_bytes → a ≡ b
+pub same_state : (a b : ReaderState) → a.slot ≡ b.slot → a.limit ≡ b.limit → a.waiting ≡ b.waiting → a.number ≡ b.number → a.is_ended ≡ b.is_ended
+    → a.last ≡ b.last → a.last_bytes ≡ b.last_bytes → a ≡ b
 same_state a b p q r s t u v = λ i. record { slot = p i; limit = q i; waiting = r i; number = s i; is_ended = t i; last = u i; last_bytes = v i }
 
 -- the first bytes of a part of a buffer
@@ -77,7 +82,8 @@ prepend_known-append xs ys None = refl
 prepend_known-append xs ys (Some zs) = ap Some (append_assoc xs ys zs)
 
 -- a read that gave n bytes behind those that wait
-pub Refills-ok : (old new : ReaderState) (before after : Told) (buf : List ℕ) (n : ℕ) → new ≡ record old { waiting = new.waiting } → new.waiting ≡ old.waiting ++ take n buf → Reads buf before after (Ok n) → 0 < length buf → Refills old new before after (Ok n)
+pub Refills-ok : (old new : ReaderState) (before after : Told) (buf : List ℕ) (n : ℕ) → new ≡ record old { waiting = new.waiting }
+    → new.waiting ≡ old.waiting ++ take n buf → Reads buf before after (Ok n) → 0 < length buf → Refills old new before after (Ok n)
 Refills-ok old new before after buf n state grown reads room = record {
   state = state;
   grown = let within : n ≤ length buf = reads.within in ap length grown ∙ (length-append old.waiting (take n buf) ∙ ap (λ m. length old.waiting + m) (length-take-le n buf within));
@@ -87,7 +93,8 @@ Refills-ok old new before after buf n state grown reads room = record {
 }
 
 -- the first bytes of what stands behind the first n
-slice_range-more : (xs : List ℕ) (n part more : ℕ) → n ≤ part → part ≤ length xs → slice_range xs n (part + more) ≡ slice_range xs n part ++ take more (drop part xs)
+slice_range-more : (xs : List ℕ) (n part more : ℕ) → n ≤ part → part ≤ length xs
+    → slice_range xs n (part + more) ≡ slice_range xs n part ++ take more (drop part xs)
 slice_range-more xs n part more first within =
     let e : (part + more) - n ≡ (part - n) + more = omega arith in
     let f : n + (part - n) ≡ part = omega arith in
@@ -118,7 +125,8 @@ moved-slice_range items moved kept start end down low before ordered part =
     ∙ ap (λ m. slice_range items m end) far
 
 -- what waits once n bytes were read behind the part that moved down
-pub waiting-refilled : (old items moved : List ℕ) (kept start end down n : ℕ) → slice_range items start end ≡ old → down ≤ kept → kept ≤ start → start ≤ end → end - down ≤ length moved
+pub waiting-refilled : (old items moved : List ℕ) (kept start end down n : ℕ) → slice_range items start end ≡ old → down ≤ kept → kept ≤ start
+    → start ≤ end → end - down ≤ length moved
     → slice_range moved (kept - down) (end - down) ≡ slice_range items kept end → slice_range moved (start - down) ((end - down) + n) ≡ old ++ take n (drop (end - down) moved)
 waiting-refilled old items moved kept start end down n waits low before ordered within part =
     slice_range-more moved (start - down) (end - down) n (omega (arith, ordered)) within ∙
@@ -130,7 +138,8 @@ pub waiting-moved : (old items moved : List ℕ) (kept start end down : ℕ) →
 waiting-moved old items moved kept start end down waits low before ordered part = moved-slice_range items moved kept start end down low before ordered part ∙ waits
 
 -- a read that failed
-pub Refills-err : (old new : ReaderState) (before after : Told) (buf : List ℕ) (e : Failed) → new ≡ record old { waiting = new.waiting } → new.waiting ≡ old.waiting → Reads buf before after (Err e) → Refills old new before after (Err e)
+pub Refills-err : (old new : ReaderState) (before after : Told) (buf : List ℕ) (e : Failed) → new ≡ record old { waiting = new.waiting }
+    → new.waiting ≡ old.waiting → Reads buf before after (Err e) → Refills old new before after (Err e)
 Refills-err old new before after buf e state same reads = record {
   state = state;
   grown = same;
@@ -149,12 +158,15 @@ last-moved (Some line) items moved kept start end down lies low ordered part =
     take-slice_range moved (kept - down) size (end - down) (omega (arith, within, low)) ∙ (ap (take size) part ∙ sym (take-slice_range items kept size end within))
 
 -- the last line and what waits leave room in their buffer
-pub part-within : (items waiting : List ℕ) (kept start end limit size : ℕ) → slice_range items start end ≡ waiting → size ≡ length items → start ≤ end → end ≤ size → start ≤ kept + limit + 1 → limit + limit + 1 + 65536 ≤ size → length waiting ≤ limit → end - kept < size
+pub part-within : (items waiting : List ℕ) (kept start end limit size : ℕ) → slice_range items start end ≡ waiting → size ≡ length items → start ≤ end
+    → end ≤ size → start ≤ kept + limit + 1 → limit + limit + 1 + 65536 ≤ size → length waiting ≤ limit → end - kept < size
 part-within items waiting kept start end limit size is same ordered within near room le = omega (arith, ap length is, length-take (end - start) (drop start items), length-drop start items)
 
+-- an LF passes the test for one
 lf_is : (byte : ℕ) → byte ≡ LF → (byte == LF) ≡ true
 lf_is byte is = eq-eqb byte LF is
 
+-- any other byte fails it
 other_is : (byte : ℕ) → byte ≢ LF → (byte == LF) ≡ false
 other_is byte other = grind (arith, nat_tests)
 

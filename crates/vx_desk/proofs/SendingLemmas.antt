@@ -47,7 +47,8 @@ take-more xs n k =
     ap (λ ys. take n xs ++ ys) (sym (drop-take n k xs)) ∙ (ap (λ ys. ys ++ drop n (take (n + k) xs)) (sym (take-take n (n + k) xs (omega arith))) ∙ take-append-drop n (take (n + k) xs))
 
 -- one more write that takes some bytes
-pub SentSoFar-more : (bytes : List ℕ) (n k : ℕ) (old mid new : Told) → SentSoFar bytes n old mid → n < length bytes → Writes (drop n bytes) mid new (Ok k) → SentSoFar bytes (n + k) old new
+pub SentSoFar-more : (bytes : List ℕ) (n k : ℕ) (old mid new : Told) → SentSoFar bytes n old mid → n < length bytes
+    → Writes (drop n bytes) mid new (Ok k) → SentSoFar bytes (n + k) old new
 SentSoFar-more bytes n k old mid new p lt q = record {
   within = let h : k ≤ length (drop n bytes) = q.within in grind (arith, common_steps);
   moved = q.moved ∙ (ap (λ s. append_known s (take k (drop n bytes))) p.moved ∙ (append_known-append old.sent (take n bytes) (take k (drop n bytes)) ∙ ap (append_known old.sent) (take-more bytes n k)));

@@ -8,7 +8,8 @@ use Rattle.vx_desk.specs.Failures.{raised}
 use Rattle.vx_desk.specs.Untold.{untold}
 
 -- a failed open of a desk that tells no content raises its count
-pub open_failed : (slot : Slot) (name : List ℕ) (is_open : Bool) (old new : Failures) (e : Failed) → new ≡ record old { opens = raised old.opens } → Rose old.opens new.opens → Opens {T = Unit {0}} slot name None (untold is_open old) (untold is_open new) (Err e)
+pub open_failed : (slot : Slot) (name : List ℕ) (is_open : Bool) (old new : Failures) (e : Failed) → new ≡ record old { opens = raised old.opens }
+    → Rose old.opens new.opens → Opens {T = Unit {0}} slot name None (untold is_open old) (untold is_open new) (Err e)
 open_failed slot name is_open old new e is rose = record {
   done = tt;
   failed = record { left = refl; sent = refl; is_open = refl; name = refl };
@@ -18,7 +19,8 @@ open_failed slot name is_open old new e is rose = record {
 }
 
 -- a failed read of such a desk raises its count
-pub read_failed : (buf : List ℕ) (is_open : Bool) (old new : Failures) (e : Failed) → new ≡ record old { reads = raised old.reads } → Rose old.reads new.reads → Reads buf (untold is_open old) (untold is_open new) (Err e)
+pub read_failed : (buf : List ℕ) (is_open : Bool) (old new : Failures) (e : Failed) → new ≡ record old { reads = raised old.reads }
+    → Rose old.reads new.reads → Reads buf (untold is_open old) (untold is_open new) (Err e)
 read_failed buf is_open old new e is rose = record {
   within = tt;
   moved = refl;
@@ -34,7 +36,8 @@ read_failed buf is_open old new e is rose = record {
 }
 
 -- a failed write of such a desk raises its count
-pub write_failed : (bytes : List ℕ) (is_open : Bool) (old new : Failures) (e : Failed) → new ≡ record old { writes = raised old.writes } → Rose old.writes new.writes → Writes bytes (untold is_open old) (untold is_open new) (Err e)
+pub write_failed : (bytes : List ℕ) (is_open : Bool) (old new : Failures) (e : Failed) → new ≡ record old { writes = raised old.writes }
+    → Rose old.writes new.writes → Writes bytes (untold is_open old) (untold is_open new) (Err e)
 write_failed bytes is_open old new e is rose = record {
   within = tt;
   moved = refl;

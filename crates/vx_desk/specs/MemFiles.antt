@@ -11,13 +11,16 @@ use Rattle.vx_desk.specs.Memory.{SlotRead, SlotWritten, held}
 abbrev pub file_of : MemFile → List ℕ × List ℕ
 file_of file = (string_bytes file.name, file.bytes.items)
 
+-- the files, each with its name and bytes
 abbrev pub files_of : List MemFile → List (List ℕ × List ℕ)
 files_of files = map file_of files
 
+-- the bytes of a file, none where there is no file
 abbrev pub bytes_of_file : Option MemFile → List ℕ
 bytes_of_file None = []
 bytes_of_file (Some file) = file.bytes.items
 
+-- the name of a file, where there is one
 abbrev pub name_of_file : Option MemFile → Option (List ℕ)
 name_of_file None = None
 name_of_file (Some file) = Some (string_bytes file.name)

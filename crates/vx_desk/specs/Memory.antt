@@ -41,6 +41,7 @@ abbrev pub held : List (List ℕ × List ℕ) → List ℕ → Option (List ℕ)
 held [] name = None
 held (file ∷ files) name = if bytes_eq file.0 name then Some file.1 else held files name
 
+-- what is told of a slot that is read: all of it
 abbrev pub told_read : SlotRead → Told
 told_read slot = record {
   left = Some slot.left;
@@ -52,6 +53,7 @@ told_read slot = record {
   failed_writes = slot.failures.writes;
 }
 
+-- what is told of a slot that is written: all of it
 abbrev pub told_written : Bool → SlotWritten → Told
 told_written is_open slot = record {
   left = Some [];
@@ -98,34 +100,38 @@ pub record AddsFile (old new : Memory) (name bytes : List ℕ) : Type 0 where
 abbrev pub next_call : Memory → ℕ
 next_call desk = raised desk.calls
 
--- what is left in a slot, and what was sent to it
+-- what is left in a slot; nothing in one that is written
 abbrev pub left_in : Memory → Slot → List ℕ
 left_in desk Feed = desk.feed.left
 left_in desk Side = desk.side.left
 left_in desk Out = []
 left_in desk Certs = []
 
+-- what was sent to a slot; nothing to one that is read
 abbrev pub sent_to : Memory → Slot → List ℕ
 sent_to desk Feed = []
 sent_to desk Side = []
 sent_to desk Out = desk.out.sent
 sent_to desk Certs = desk.certs.sent
 
--- the counts after a call of one kind that failed
+-- the counts after an open that failed
 abbrev pub open_failed : Failures → Failures
 open_failed failures = record failures { opens = raised failures.opens }
 
+-- the counts after a read that failed
 abbrev pub read_failed : Failures → Failures
 read_failed failures = record failures { reads = raised failures.reads }
 
+-- the counts after a write that failed
 abbrev pub write_failed : Failures → Failures
 write_failed failures = record failures { writes = raised failures.writes }
 
--- a slot after `open` of it
+-- a slot that is read after `open` of it
 abbrev pub opens_to_read : List ℕ → Option (List ℕ) → Bool → SlotRead → SlotRead
 opens_to_read name bytes true slot = record slot { opened = Some name; left = unwrap_or bytes [] }
 opens_to_read name bytes false slot = record slot { failures = open_failed slot.failures }
 
+-- a slot that is written after `open` of it
 abbrev pub opens_to_write : List ℕ → Bool → SlotWritten → SlotWritten
 opens_to_write name true slot = record slot { opened = Some name; sent = [] }
 opens_to_write name false slot = record slot { failures = open_failed slot.failures }

@@ -6,8 +6,9 @@ use Rattle.vx_desk.specs.declared.failures.Failures.{Failures}
 use Rattle.vx_desk.specs.Told.{Told}
 use Rattle.vx_desk.specs.Failures.{no_failures}
 
--- what is known of a desk that tells no content: which slots are open, and what failed at each
-pub record UntoldDesk : Type 0 where
+-- what is known of a desk that tells no content: its runtime, which slots are open, and what failed at each
+pub record UntoldDesk (R : Type 0) : Type 0 where
+  pub runtime : R
   pub feed_is_open : Bool
   pub side_is_open : Bool
   pub certs_is_open : Bool
@@ -29,15 +30,16 @@ untold is_open failures = record {
 }
 
 -- what it tells of each slot; the output is open
-abbrev pub untold_slots : UntoldDesk → Slot → Told
+abbrev pub untold_slots : {R : Type 0} → UntoldDesk R → Slot → Told
 untold_slots desk Feed = untold desk.feed_is_open desk.feed
 untold_slots desk Side = untold desk.side_is_open desk.side
 untold_slots desk Out = untold true desk.out
 untold_slots desk Certs = untold desk.certs_is_open desk.certs
 
--- the output alone is open, and nothing failed
-abbrev pub fresh_untold : UntoldDesk
-fresh_untold = record {
+-- a desk over this runtime: the output alone is open, and nothing failed
+abbrev pub fresh_untold : {R : Type 0} → R → UntoldDesk R
+fresh_untold runtime = record {
+  runtime = runtime;
   feed_is_open = false;
   side_is_open = false;
   certs_is_open = false;

@@ -88,9 +88,10 @@ impl<R: Files + Print + Drop> Model for RealDesk<R> {
     ghost use Rattle.std.specs.Prelude.{is_some};
     ghost use Rattle.vx_desk.specs.Untold.{UntoldDesk};
 
-    ghost Value = { UntoldDesk };
+    ghost Value = { UntoldDesk R };
 
     ghost view = { λ d. record {
+      runtime = d.rt;
       feed_is_open = is_some d.feed.file;
       side_is_open = is_some d.side.file;
       certs_is_open = is_some d.certs.file;
@@ -104,7 +105,7 @@ impl<R: Files + Print + Drop> Model for RealDesk<R> {
 impl<R: Files + Print + Drop> RealDesk<R> {
     /// A desk with the output alone open.
     pub fn new(rt: R) -> RealDesk<R>
-        ensures { result ≡ fresh_untold }
+        ensures { result ≡ fresh_untold rt }
     {
         RealDesk {
             rt,
@@ -116,7 +117,9 @@ impl<R: Files + Print + Drop> RealDesk<R> {
     }
 
     /// Closes what was opened, and gives the runtime back.
-    pub fn finish(self) -> R {
+    pub fn finish(self) -> R
+        ensures { result ≡ self.runtime }
+    {
         let RealDesk { rt, .. } = self;
         rt
     }
