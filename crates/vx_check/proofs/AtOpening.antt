@@ -1,5 +1,6 @@
 -- The opening of a lawful feed stands at one line, the one that the book keeps.
-use Rattle.std.proofs.Common.{◌≡◌, ◌↔◌, ℕ, zero, suc, ◌-◌, ◌||◌, Bool, true, false, cond, IsTrue, MatchOption, IsSomeAnd, option_map, option_and_then, List, [], ◌∷◌, ◌++◌, length, Option, Some, None, refl, sym, ◌∙◌, ap, subst, arith}
+use Rattle.std.proofs.Common.{◌≡◌, ◌↔◌, ℕ, zero, suc, ◌-◌, ◌||◌, Bool, true, false, cond, IsTrue, MatchOption, IsSomeAnd, option_map, option_and_then}
+use Rattle.std.proofs.Common.{List, [], ◌∷◌, ◌++◌, length, Option, Some, None, refl, sym, ◌∙◌, ap, subst, arith}
 use Rattle.std.specs.List.{slice_get, list_any}
 use Rattle.std.proofs.lemmas.List.Folds.{list_any-append}
 use Rattle.std.proofs.lemmas.Option.{same_Some}
@@ -76,8 +77,9 @@ module _ (time : ℕ) where
   first_opening before (event.End count ∷ events) (suc n) h at =
       let r = first_opening (before ++ event.End count ∷ []) events n h.1 at in (r.0, omega (arith, r.1))
 
-pub opening_at : (events : List Event) (line time : ℕ) → AreLawful events → IsOpeningAt events line time → (opening_time events ≡ Some time) × (opening_line events ≡ line)
-opening_at events line time lawful at =
+pub opening_of_line : (events : List Event) (line time : ℕ) → AreLawful events → IsOpeningAt events line time
+    → (opening_time events ≡ Some time) × (opening_line events ≡ line)
+opening_of_line events line time lawful at =
     let first = first_opening time [] events (line - 1) lawful at.1 in
     let low = at.0 in
     (first.0, omega (arith, low, first.1))
@@ -86,24 +88,26 @@ opening_at events line time lawful at =
 
 module _ (book : PlainBook) (events : List Event) (stands : StandsFor book events) (lawful : AreLawful events) (line time : ℕ) where
   -- the book's opening is at the line where the events have it there
-  pub place_at : (o : Opening) → book.opening ≡ Some o → (b : Bool) → (IsTrue b ↔ ((o.line ≡ line) × (o.time ≡ time))) → (IsTrue b ↔ IsOpeningAt events line time)
+  pub place_at : (o : Opening) → book.opening ≡ Some o → (b : Bool) → (IsTrue b ↔ ((o.line ≡ line) × (o.time ≡ time)))
+      → (IsTrue b ↔ IsOpeningAt events line time)
   place_at o is b both =
       let kept : IsOpeningOfEvents events o = subst (λ (k : Option Opening). MatchOption k (opening_time events ≡ None) (IsOpeningOfEvents events)) is stands.opening in (
         λ t. let same = both.0 t in
             let taken : opening_time events ≡ Some time = kept.time ∙ ap Some same.1 in
             subst (λ (k : ℕ). IsOpeningAt events k time) (sym kept.line ∙ same.0) (opening_stands events time taken),
-        λ at. let found = opening_at events line time lawful at in
+        λ at. let found = opening_of_line events line time lawful at in
             both.1 (kept.line ∙ found.1, same_Some o.time time (sym kept.time ∙ found.0)),
       )
 
   pub no_place : book.opening ≡ None → IsOpeningAt events line time → ⊥
   no_place is at =
       let none : opening_time events ≡ None = subst (λ (k : Option Opening). MatchOption k (opening_time events ≡ None) (IsOpeningOfEvents events)) is stands.opening in
-      let found = opening_at events line time lawful at in
+      let found = opening_of_line events line time lawful at in
       let e : None ≡ Some time = sym none ∙ found.0 in
       cc e
 
-term_of : (events : List Event) (time : ℕ) (k : Option Opening) → MatchOption k (opening_time events ≡ None) (IsOpeningOfEvents events) → opening_time events ≡ Some time
+term_of : (events : List Event) (time : ℕ) (k : Option Opening) → MatchOption k (opening_time events ≡ None) (IsOpeningOfEvents events)
+    → opening_time events ≡ Some time
     → option_map facts_of_term (option_and_then (λ (o : Opening). o.term) k) ≡ (opening_facts events).term
 term_of events time None none taken = let e : None ≡ Some time = sym none ∙ taken in absurd (cc e)
 term_of events time (Some o) kept taken = kept.term
@@ -117,7 +121,7 @@ module _ (book : PlainBook) (events : List Event) (line time : ℕ) (h : IsAtOpe
   shown = option_and_then (λ (o : Opening). o.term) book.opening
 
   shown_is : option_map facts_of_term shown ≡ (opening_facts events).term
-  shown_is = term_of events time book.opening h.stands.opening (opening_at events line time h.lawful h.is_opening).0
+  shown_is = term_of events time book.opening h.stands.opening (opening_of_line events line time h.lawful h.is_opening).0
 
   -- the term that the book keeps is that of the trade date
   module _ (day : DayNo) (stands : trade_date events ≡ Some day) (t : OpeningTerm) (is : shown ≡ Some t) where

@@ -1,5 +1,6 @@
 -- What a book shows at the tick of a line is what the events before it show.
-use Rattle.std.proofs.Common.{◌≡◌, ◌↔◌, ℕ, zero, suc, Bool, IsTrue, ◌-◌, ◌<◌, ◌≤◌, List, [], ◌∷◌, ◌++◌, take, length, Option, Some, None, option_and_then, refl, sym, ◌∙◌, ap, subst, arith}
+use Rattle.std.proofs.Common.{◌≡◌, ◌↔◌, ℕ, zero, suc, Bool, IsTrue, ◌-◌, ◌<◌, ◌≤◌, List, [], ◌∷◌, ◌++◌, take, length, Option, Some, None}
+use Rattle.std.proofs.Common.{option_and_then, refl, sym, ◌∙◌, ap, subst, arith}
 use Rattle.std.specs.List.{slice_get, list_any}
 use Rattle.std.proofs.lemmas.Option.{slice_get_within, same_Some}
 use Rattle.vx_clock.specs.declared.days.DayNo.{DayNo}
@@ -25,14 +26,14 @@ use Rattle.vx_check.specs.Kept.{is_kept, kept_rate, kept_rows}
 use Rattle.vx_check.specs.StandsFor.{StandsFor, last_event, tick_minute}
 use Rattle.vx_check.specs.Reached.{IsReached, IsAtTick}
 use Rattle.vx_check.proofs.Pushes.{last_event-push}
-use Rattle.vx_check.proofs.NextTables.{nothing_more}
+use Rattle.std.proofs.lemmas.List.{append-nil}
 use Rattle.vx_check.proofs.NextSeries.{rows_as_before}
 
 -- ---- the last event
 
-last_at : (y : Event) (ys : List Event) (e : Event) → last_event (y ∷ ys) ≡ Some e → slice_get (y ∷ ys) (length ys) ≡ Some e
-last_at y [] e h = h
-last_at y (z ∷ zs) e h = last_at z zs e h
+last_event_stands : (y : Event) (ys : List Event) (e : Event) → last_event (y ∷ ys) ≡ Some e → slice_get (y ∷ ys) (length ys) ≡ Some e
+last_event_stands y [] e h = h
+last_event_stands y (z ∷ zs) e h = last_event_stands z zs e h
 
 pub last_split : (n : ℕ) (events : List Event) (e : Event) → length events ≡ suc n → slice_get events n ≡ Some e → events ≡ take n events ++ e ∷ []
 last_split n [] e l h = absurd (omega arith)
@@ -56,10 +57,11 @@ tick_there : (events : List Event) (line time : ℕ) → length events ≡ line 
 tick_there [] line time l h = absurd (cc h)
 tick_there (y ∷ ys) line time l h =
     let place : length ys ≡ line - 1 = omega arith in
-    (omega arith, subst (λ n. slice_get (y ∷ ys) n ≡ Some (event.Tick time)) place (last_at y ys (event.Tick time) h))
+    (omega arith, subst (λ n. slice_get (y ∷ ys) n ≡ Some (event.Tick time)) place (last_event_stands y ys (event.Tick time) h))
 
 -- a tick at a line that the events do not pass is the last of them
-tick_is_last : (events : List Event) (line time : ℕ) → length events ≤ line → IsTickAt events line time → (length events ≡ line) × (events ≡ events_before events line ++ event.Tick time ∷ [])
+tick_is_last : (events : List Event) (line time : ℕ) → length events ≤ line → IsTickAt events line time
+    → (length events ≡ line) × (events ≡ events_before events line ++ event.Tick time ∷ [])
 tick_is_last events line time short h =
     let low : 1 ≤ line = h.0 in
     let within : line - 1 < length events = slice_get_within events (line - 1) (event.Tick time) h.1 in
@@ -86,7 +88,7 @@ module _ (before : List Event) (time : ℕ) where
   after = before ++ event.Tick time ∷ []
 
   expiries_before : declared_expiries after ≡ declared_expiries before
-  expiries_before = next_declared before (event.Tick time) ∙ nothing_more (declared_expiries before)
+  expiries_before = next_declared before (event.Tick time) ∙ append-nil (declared_expiries before)
 
   rate_before : (x : Expiry) → standing_rate x after ≡ standing_rate x before
   rate_before x = next_rate x before (event.Tick time)
@@ -113,8 +115,8 @@ module _ (book : PlainBook) (events : List Event) (line time : ℕ) (h : IsAtTic
   pub rows_are : (x : Expiry) → kept_rows x book ≡ listed_rows x before
   rows_are x = h.reached.stands.rows x ∙ ap (listed_rows x) split ∙ rows_before before time x
 
-  pub rows_rise : (x : Expiry) → StrikesRise (kept_rows x book)
-  rows_rise x = subst StrikesRise (sym (rows_are x)) (listed_rows_rise x before).0
+  pub kept_rows_rise : (x : Expiry) → StrikesRise (kept_rows x book)
+  kept_rows_rise x = subst StrikesRise (sym (rows_are x)) (listed_rows_rise x before).0
 
   pub facts_rise : (facts : TermFacts) (day : DayNo) (x : Expiry) → facts ≡ term_facts before (moment_of day time) x → StrikesRise facts.rows
   facts_rise facts day x is = subst (λ (f : TermFacts). StrikesRise f.rows) (sym is) (listed_rows_rise x before).0
@@ -142,7 +144,8 @@ module _ (book : PlainBook) (events : List Event) (line time : ℕ) (h : IsAtTic
     abbrev ArePickedBefore : DayNo → Type 0
     ArePickedBefore day = IsNearTerm day days window (declared_expiries before) near × IsNextTerm day days window (declared_expiries before) next
 
-    pub picked_at : (day : DayNo) → book.day ≡ Some day → (b : Bool) → (IsTrue b ↔ ArePickedOn day) → (IsTrue b ↔ ArePickedTerms events line days window near next)
+    pub picked_at : (day : DayNo) → book.day ≡ Some day → (b : Bool) → (IsTrue b ↔ ArePickedOn day)
+        → (IsTrue b ↔ ArePickedTerms events line days window near next)
     picked_at day is b both =
         let stands : trade_date events ≡ Some day = sym h.reached.stands.day ∙ is in
         let F : List Expiry → Type 0 = λ xs. IsNearTerm day days window xs near × IsNextTerm day days window xs next in (

@@ -8,7 +8,8 @@ use Rattle.vx_cert.specs.declared.certificate.Pair.{Pair as CertPair}
 use Rattle.vx_cert.specs.declared.certificate.CertBody.{CertBody}
 use Rattle.vx_cert.specs.declared.certificate.CertBody.TheVariants.{K0, Single, Soq}
 use Rattle.vx_claims.specs.declared.acceptance.Test.{Test}
-use Rattle.vx_claims.specs.declared.acceptance.Test.TheVariants.{Place, Terms, Minutes, Rate, TaylorTerms, Exponential, ClosestPair, Forward, Level, Excess, Strip, Contributions, Total, Variance, Square, IndexEnds}
+use Rattle.vx_claims.specs.declared.acceptance.Test.TheVariants.{Place, Terms, Minutes, Rate, TaylorTerms, Exponential, ClosestPair, Forward, Level}
+use Rattle.vx_claims.specs.declared.acceptance.Test.TheVariants.{Excess, Strip, Contributions, Total, Variance, Square, IndexEnds}
 use Rattle.vx_claims.specs.Test.{test_number}
 use Rattle.vx_claims.specs.Seen.{IsTickAt}
 use Rattle.vx_claims.specs.Accepts.{TermMeetsAt, OpeningTermMeets, SingleMeets, IndexMeets, SoqMeets}
@@ -18,7 +19,8 @@ use Rattle.vx_check.specs.Answers.{AreMetBefore, IsSingleBasis, BodyMeetsAsIndex
 use Rattle.vx_check.specs.Numbers.{FigureNumbersMeet}
 
 -- the line's tick is there where the tests before a later one are met
-pub tick_before : (book : PlainBook) (events : List Event) (line time : ℕ) (M : Test → Type 0) → (M Place → IsTickAt events line time) → IsReached book events line
+pub tick_before : (book : PlainBook) (events : List Event) (line time : ℕ) (M : Test → Type 0) → (M Place → IsTickAt events line time)
+    → IsReached book events line
     → (test : Test) → 1 < test_number test → AreMetBefore M test → IsAtTick book events line time
 tick_before book events line time M place reached test later before = record { reached = reached; is_tick = place (before Place later) }
 
@@ -205,11 +207,14 @@ module _ (days window : ℕ) (events : List Event) (version line time : ℕ) whe
   soq_as_index term figure b IndexEnds later = (λ t. tt, λ m. later.1 (omega arith))
 
   -- the same for a body that is known to be of the kind
-  pub level_kind : {x : Expiry} {pair : CertPair} {k0 : ℕ} (body : CertBody) → body ≡ K0 x pair k0 → (b : Bool) (test : Test) → IsLater b test → AsIndex b body test
+  pub level_kind : {x : Expiry} {pair : CertPair} {k0 : ℕ} (body : CertBody) → body ≡ K0 x pair k0 → (b : Bool) (test : Test) → IsLater b test
+      → AsIndex b body test
   level_kind {x} {pair} {k0} body is b test later = subst (λ (y : CertBody). AsIndex b y test) (sym is) (level_as_index x pair k0 b test later)
 
-  pub single_kind : {term : CertTerm} {figure : CertFigure} (body : CertBody) → body ≡ Single term figure → (b : Bool) (test : Test) → IsLater b test → AsIndex b body test
+  pub single_kind : {term : CertTerm} {figure : CertFigure} (body : CertBody) → body ≡ Single term figure → (b : Bool) (test : Test) → IsLater b test
+      → AsIndex b body test
   single_kind {term} {figure} body is b test later = subst (λ (y : CertBody). AsIndex b y test) (sym is) (single_as_index term figure b test later)
 
-  pub soq_kind : {term : CertTerm} {figure : CertFigure} (body : CertBody) → body ≡ Soq term figure → (b : Bool) (test : Test) → IsLater b test → AsIndex b body test
+  pub soq_kind : {term : CertTerm} {figure : CertFigure} (body : CertBody) → body ≡ Soq term figure → (b : Bool) (test : Test) → IsLater b test
+      → AsIndex b body test
   soq_kind {term} {figure} body is b test later = subst (λ (y : CertBody). AsIndex b y test) (sym is) (soq_as_index term figure b test later)

@@ -16,8 +16,8 @@ tables_say book events h x = record { rate_is = h.rate x; keeps = record { rows_
 pub tables_traded : (book : PlainBook) (events : List Event) → StandsFor book events → AllTraded book.tables.items events
 tables_traded book events h x = h.trades x
 
-pub stands_still : (old new : PlainBook) (events : List Event) → IsSameBook old new → StandsFor old events → StandsFor new events
-stands_still old new events same h =
+pub same_book_stands : (old new : PlainBook) (events : List Event) → IsSameBook old new → StandsFor old events → StandsFor new events
+same_book_stands old new events same h =
     let all = all_say_still old.tables.items new.tables.items events same.tables (tables_say old events h) in
     let traded = all_traded_still old.tables.items new.tables.items events same.tables (tables_traded old events h) in
     record {

@@ -1,5 +1,6 @@
 -- The opening after one more event.
-use Rattle.std.proofs.Common.{◌≡◌, ℕ, ◌+◌, ◌<◌, true, false, cond, List, [], ◌∷◌, ◌++◌, map, length, Option, Some, None, option_and_then, refl, sym, ◌∙◌, ap, subst}
+use Rattle.std.proofs.Common.{◌≡◌, ℕ, ◌+◌, ◌<◌, true, false, cond, List, [], ◌∷◌, ◌++◌, map, length, Option, Some, None, option_and_then, refl, sym}
+use Rattle.std.proofs.Common.{◌∙◌, ap, subst}
 use Rattle.std.specs.Prelude.{ℤ, MatchOption, IsSomeAnd, is_some, option_map, find}
 use Rattle.std.specs.List.{list_any}
 use Rattle.std.specs.Option.{option_or}
@@ -80,9 +81,9 @@ no_header events (event.Tick time) opened lawful = refl
 no_header events (event.Opening time) opened lawful = refl
 no_header events (event.End count) opened lawful = refl
 
-date_kept : (events : List Event) (e : Event) → list_any is_opening events ≡ true → IsLawfulNext events e
+trade_date_stays : (events : List Event) (e : Event) → list_any is_opening events ≡ true → IsLawfulNext events e
     → trade_date (events ++ e ∷ []) ≡ trade_date events
-date_kept events e opened lawful =
+trade_date_stays events e opened lawful =
     trade_date-push events e lawful ∙ ap (λ o. option_or o (trade_date events)) (no_header events e opened lawful)
 
 pub opening_kept : (events : List Event) (e : Event) (opening : Opening) → list_any is_opening events ≡ true → IsLawfulNext events e
@@ -94,7 +95,7 @@ opening_kept events e opening opened lawful h =
       time = first_said-push opening_minute events e ∙ ap (λ o. option_or o (opening_minute e)) h.time;
       expiries = h.expiries ∙ sym (ap (λ l. length (declared_expiries l)) before);
       term = h.term ∙ sym (ap (λ l. option_and_then (term_by l) (trade_date (events ++ e ∷ []))) before
-          ∙ ap (option_and_then (term_by (before_opening events))) (date_kept events e opened lawful));
+          ∙ ap (option_and_then (term_by (before_opening events))) (trade_date_stays events e opened lawful));
     }
 
 -- ---- the opening is taken
@@ -166,11 +167,11 @@ term_taken (Some day) events tables term unopened same say traded both =
     let x = opening_expiry day in
     term_from x events tables term (find (is_table_of x) tables) unopened same refl (say x) (traded x) both
 
-pub opening_taken : (old : PlainBook) (events : List Event) (time : ℕ) (opening : Opening) → list_any is_opening events ≡ false
+pub opening_of_events : (old : PlainBook) (events : List Event) (time : ℕ) (opening : Opening) → list_any is_opening events ≡ false
     → IsLawfulNext events (event.Opening time)
     → StandsFor old events → AllSay old.tables.items events → OpensAt old time opening
     → IsOpeningOfEvents (events ++ event.Opening time ∷ []) opening
-opening_taken old events time opening unopened lawful h say opens =
+opening_of_events old events time opening unopened lawful h say opens =
     let e = event.Opening time in
     let before = before_now events time unopened in
     let room = one_line_more events e lawful in
@@ -206,7 +207,7 @@ keeps_taken : (old : PlainBook) (new : Option Opening) (events : List Event) (ti
     → Keeps new (events ++ event.Opening time ∷ [])
 keeps_taken old None events time lawful h say opens = absurd opens
 keeps_taken old (Some opening) events time lawful h say opens =
-    opening_taken old events time opening (not_second events (event.Opening time) lawful) lawful h say opens
+    opening_of_events old events time opening (not_second events (event.Opening time) lawful) lawful h say opens
 
 pub opening_after : (old : PlainBook) (new : Option Opening) (events : List Event) (e : Event) → IsLawfulNext events e
     → StandsFor old events → AllSay old.tables.items events → ChangesOpening old e new → Keeps new (events ++ e ∷ [])

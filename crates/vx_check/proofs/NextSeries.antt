@@ -20,29 +20,31 @@ use Rattle.vx_feed.proofs.NextRows.{apart_series, other_strike, own_strike}
 use Rattle.vx_feed.proofs.SameAfter.{listed_same, price_same}
 use Rattle.vx_check.specs.declared.table.Half.{Half}
 use Rattle.vx_check.specs.Rising.{Rises, item_at, IsWith}
-use Rattle.vx_check.specs.Tables.{row_strike, half_strike, price_of, row_when_listed, half_when_listed, row_with_price, half_when_quoted, ListsSeries, SetsPrice}
+use Rattle.vx_check.specs.Tables.{row_strike, half_strike, price_of, row_when_listed, half_when_listed, row_with_price, half_when_quoted, ListsSeries}
+use Rattle.vx_check.specs.Tables.{SetsPrice}
 use Rattle.vx_check.specs.StandsFor.{only_side, listed_half, AreListedHalves}
 use Rattle.vx_check.specs.NextRows.{both_sides, listed_row}
 use Rattle.vx_check.proofs.Rising.{same_from_items}
 use Rattle.vx_check.proofs.TableLists.{expiry_self}
-use Rattle.vx_check.proofs.Strikes.{listed_rows_rise, listed_item}
+use Rattle.vx_check.proofs.Strikes.{listed_rows_rise_by_strike, listed_item}
 
 -- what a table keeps of the series of its expiry
 pub record Keeps (x : Expiry) (events : List Event) (rows : List StrikeRow) (halves : List Half) : Type 0 where
   pub rows_are : rows ≡ listed_rows x events
   pub halves_are : AreListedHalves x events halves
 
-pub rows_rise : (x : Expiry) (events : List Event) (rows : List StrikeRow) (halves : List Half) → Keeps x events rows halves → Rises row_strike rows
-rows_rise x events rows halves h = subst (λ (l : List StrikeRow). Rises row_strike l) (sym h.rows_are) (listed_rows_rise x events)
+pub listed_rows_still_rise : (x : Expiry) (events : List Event) (rows : List StrikeRow) (halves : List Half) → Keeps x events rows halves → Rises row_strike rows
+listed_rows_still_rise x events rows halves h = subst (λ (l : List StrikeRow). Rises row_strike l) (sym h.rows_are) (listed_rows_rise_by_strike x events)
 
-pub row_item : (x : Expiry) (events : List Event) (rows : List StrikeRow) (halves : List Half) → Keeps x events rows halves → (k : ℕ) → item_at row_strike k rows ≡ listed_row x events k
+pub row_item : (x : Expiry) (events : List Event) (rows : List StrikeRow) (halves : List Half) → Keeps x events rows halves → (k : ℕ)
+    → item_at row_strike k rows ≡ listed_row x events k
 row_item x events rows halves h k = ap (item_at row_strike k) h.rows_are ∙ listed_item x events k
 
 -- it keeps them for more events where it has the rows and the single sides of each strike
 keeps_from : (x : Expiry) (events : List Event) (rows : List StrikeRow) (halves : List Half) → Rises row_strike rows → Rises half_strike halves
     → ((k : ℕ) → item_at row_strike k rows ≡ listed_row x events k) → ((k : ℕ) → item_at half_strike k halves ≡ listed_half x events k) → Keeps x events rows halves
 keeps_from x events rows halves r s row half = record {
-  rows_are = same_from_items row_strike 0 0 rows (listed_rows x events) r (listed_rows_rise x events) (λ k. row k ∙ sym (listed_item x events k));
+  rows_are = same_from_items row_strike 0 0 rows (listed_rows x events) r (listed_rows_rise_by_strike x events) (λ k. row k ∙ sym (listed_item x events k));
   halves_are = record { rises = s; each = half };
 }
 
@@ -67,10 +69,12 @@ four : {X : Type 0} (f : Bool → Bool → Price → Price → X) (a a' b b' : B
 four f a a' b b' p p' q q' ea eb ep eq =
     ap (λ z. f z b p q) ea ∙ ap (λ z. f a' z p q) eb ∙ ap (λ z. f a' b' z q) ep ∙ ap (f a' b' p') eq
 
-row_says : (x : Expiry) (events : List Event) (k : ℕ) (lp lc : Bool) (pp pc : Price) → SaysOfStrike x events k lp lc pp pc → listed_row x events k ≡ both_sides k lp lc pp pc
+row_says : (x : Expiry) (events : List Event) (k : ℕ) (lp lc : Bool) (pp pc : Price) → SaysOfStrike x events k lp lc pp pc
+    → listed_row x events k ≡ both_sides k lp lc pp pc
 row_says x events k lp lc pp pc h = four (both_sides k) _ lp _ lc _ pp _ pc h.put_listed h.call_listed h.put_price h.call_price
 
-half_says : (x : Expiry) (events : List Event) (k : ℕ) (lp lc : Bool) (pp pc : Price) → SaysOfStrike x events k lp lc pp pc → listed_half x events k ≡ only_side k lp lc pp pc
+half_says : (x : Expiry) (events : List Event) (k : ℕ) (lp lc : Bool) (pp pc : Price) → SaysOfStrike x events k lp lc pp pc
+    → listed_half x events k ≡ only_side k lp lc pp pc
 half_says x events k lp lc pp pc h = four (only_side k) _ lp _ lc _ pp _ pc h.put_listed h.call_listed h.put_price h.call_price
 
 -- ---- one series after one more event
@@ -95,7 +99,7 @@ says_as_before x events e k quiet = record {
 pub keeps_quiet : (x : Expiry) (events : List Event) (e : Event) (rows : List StrikeRow) (halves : List Half)
     → ((k : ℕ) → IsQuietAt x k e) → Keeps x events rows halves → Keeps x (events ++ e ∷ []) rows halves
 keeps_quiet x events e rows halves quiet h =
-    keeps_from x (events ++ e ∷ []) rows halves (rows_rise x events rows halves h) h.halves_are.rises
+    keeps_from x (events ++ e ∷ []) rows halves (listed_rows_still_rise x events rows halves h) h.halves_are.rises
     (λ k. row_item x events rows halves h k ∙ sym (row_says x (events ++ e ∷ []) k _ _ _ _ (says_as_before x events e k (quiet k))))
     (λ k. h.halves_are.each k ∙ sym (half_says x (events ++ e ∷ []) k _ _ _ _ (says_as_before x events e k (quiet k))))
 
@@ -113,7 +117,8 @@ some_if false q h = refl
 pub apart_listing : (x : Expiry) (s : Symbol) → is_same_expiry x (expiry_of s) ≡ false → (k : ℕ) → IsQuietAt x k (event.Series s)
 apart_listing x s h k side = (apart_series x s side k h, refl)
 
-pub apart_quote : (x : Expiry) (time : ℕ) (s : Symbol) (bid ask : ℕ) → is_same_expiry x (expiry_of s) ≡ false → (k : ℕ) → IsQuietAt x k (event.Quote time s bid ask)
+pub apart_quote : (x : Expiry) (time : ℕ) (s : Symbol) (bid ask : ℕ) → is_same_expiry x (expiry_of s) ≡ false → (k : ℕ)
+    → IsQuietAt x k (event.Quote time s bid ask)
 apart_quote x time s bid ask h k side = (refl, some_if (is_same_series (series_at x side k) s) (record { bid = bid; ask = ask }) (apart_series x s side k h))
 
 -- nor of other strikes
@@ -143,12 +148,8 @@ changes_at s events e rows new_rows halves new_halves row half quiet h in_rows i
 
 -- ---- a series is listed
 
--- of a strike where one side is listed now, and the other was or was not
-row_listed : (side : Side) (k : ℕ) (other : Bool) (pp pc : Price) → Option StrikeRow
-row_listed Put k other pp pc = both_sides k true other no_price pc
-row_listed Call k other pp pc = both_sides k other true pp no_price
-
-put_rows : (k : ℕ) (lc : Bool) (pc : Price) → row_when_listed Put (only_side k false lc no_price pc) (both_sides k false lc no_price pc) ≡ both_sides k true lc no_price pc
+put_rows : (k : ℕ) (lc : Bool) (pc : Price)
+    → row_when_listed Put (only_side k false lc no_price pc) (both_sides k false lc no_price pc) ≡ both_sides k true lc no_price pc
 put_rows k true pc = refl
 put_rows k false pc = refl
 
@@ -156,7 +157,8 @@ put_halves : (k : ℕ) (lc : Bool) (pc : Price) → half_when_listed Put k (only
 put_halves k true pc = refl
 put_halves k false pc = refl
 
-call_rows : (k : ℕ) (lp : Bool) (pp : Price) → row_when_listed Call (only_side k lp false pp no_price) (both_sides k lp false pp no_price) ≡ both_sides k lp true pp no_price
+call_rows : (k : ℕ) (lp : Bool) (pp : Price)
+    → row_when_listed Call (only_side k lp false pp no_price) (both_sides k lp false pp no_price) ≡ both_sides k lp true pp no_price
 call_rows k true pp = refl
 call_rows k false pp = refl
 
@@ -241,25 +243,29 @@ keeps_listed s events rows new_rows halves new_halves unlisted h lists =
 
 -- ---- a series is quoted
 
-put_row_quoted : (k : ℕ) (lp lc : Bool) (price pp pc : Price) → option_map (row_with_price Put price) (both_sides k lp lc pp pc) ≡ both_sides k lp lc (cond lp price pp) pc
+put_row_quoted : (k : ℕ) (lp lc : Bool) (price pp pc : Price)
+    → option_map (row_with_price Put price) (both_sides k lp lc pp pc) ≡ both_sides k lp lc (cond lp price pp) pc
 put_row_quoted k true true price pp pc = refl
 put_row_quoted k true false price pp pc = refl
 put_row_quoted k false true price pp pc = refl
 put_row_quoted k false false price pp pc = refl
 
-call_row_quoted : (k : ℕ) (lp lc : Bool) (price pp pc : Price) → option_map (row_with_price Call price) (both_sides k lp lc pp pc) ≡ both_sides k lp lc pp (cond lc price pc)
+call_row_quoted : (k : ℕ) (lp lc : Bool) (price pp pc : Price)
+    → option_map (row_with_price Call price) (both_sides k lp lc pp pc) ≡ both_sides k lp lc pp (cond lc price pc)
 call_row_quoted k true true price pp pc = refl
 call_row_quoted k true false price pp pc = refl
 call_row_quoted k false true price pp pc = refl
 call_row_quoted k false false price pp pc = refl
 
-put_half_quoted : (k : ℕ) (lp lc : Bool) (price pp pc : Price) → half_when_quoted Put price (both_sides k lp lc pp pc) (only_side k lp lc pp pc) ≡ only_side k lp lc (cond lp price pp) pc
+put_half_quoted : (k : ℕ) (lp lc : Bool) (price pp pc : Price)
+    → half_when_quoted Put price (both_sides k lp lc pp pc) (only_side k lp lc pp pc) ≡ only_side k lp lc (cond lp price pp) pc
 put_half_quoted k true true price pp pc = refl
 put_half_quoted k true false price pp pc = refl
 put_half_quoted k false true price pp pc = refl
 put_half_quoted k false false price pp pc = refl
 
-call_half_quoted : (k : ℕ) (lp lc : Bool) (price pp pc : Price) → half_when_quoted Call price (both_sides k lp lc pp pc) (only_side k lp lc pp pc) ≡ only_side k lp lc pp (cond lc price pc)
+call_half_quoted : (k : ℕ) (lp lc : Bool) (price pp pc : Price)
+    → half_when_quoted Call price (both_sides k lp lc pp pc) (only_side k lp lc pp pc) ≡ only_side k lp lc pp (cond lc price pc)
 call_half_quoted k true true price pp pc = refl
 call_half_quoted k true false price pp pc = refl
 call_half_quoted k false true price pp pc = refl
@@ -275,7 +281,8 @@ module _ (x : Expiry) (k time bid ask : ℕ) (events : List Event) where
   abbrev old_price : Side → Price
   old_price side = standing_price events (series_at x side k)
 
-  quoted_after : (listed : Bool) (q : Option BidAsk) (new : BidAsk) → quoted_price (quote_after listed q (Some new)) ≡ cond listed (quoted_price (if_standing new)) (quoted_price q)
+  quoted_after : (listed : Bool) (q : Option BidAsk) (new : BidAsk)
+      → quoted_price (quote_after listed q (Some new)) ≡ cond listed (quoted_price (if_standing new)) (quoted_price q)
   quoted_after true q new = refl
   quoted_after false q new = refl
 
@@ -289,7 +296,8 @@ module _ (x : Expiry) (k time bid ask : ℕ) (events : List Event) where
     some_yes true q h = refl
     some_yes false q h = absurd (cc h)
 
-  price_quoted : (side : Side) → standing_price (events ++ quote_event side ∷ []) (series_at x side k) ≡ cond (is_there side) (price_of bid ask) (old_price side)
+  price_quoted : (side : Side)
+      → standing_price (events ++ quote_event side ∷ []) (series_at x side k) ≡ cond (is_there side) (price_of bid ask) (old_price side)
   price_quoted side =
       ap quoted_price (next_quote (series_at x side k) events (quote_event side) ∙ ap (quote_after (is_there side) (standing_quote (series_at x side k) events)) (quote_own side))
       ∙ quoted_after (is_there side) (standing_quote (series_at x side k) events) (record { bid = bid; ask = ask })
@@ -316,7 +324,8 @@ module _ (x : Expiry) (k time bid ask : ℕ) (events : List Event) where
   quoted_row Put = put_row_quoted k (is_there Put) (is_there Call) (price_of bid ask) (old_price Put) (old_price Call) ∙ sym (row_says x (events ++ quote_event Put ∷ []) k _ _ _ _ put_quoted)
   quoted_row Call = call_row_quoted k (is_there Put) (is_there Call) (price_of bid ask) (old_price Put) (old_price Call) ∙ sym (row_says x (events ++ quote_event Call ∷ []) k _ _ _ _ call_quoted)
 
-  quoted_half : (side : Side) → half_when_quoted side (price_of bid ask) (listed_row x events k) (listed_half x events k) ≡ listed_half x (events ++ quote_event side ∷ []) k
+  quoted_half : (side : Side)
+      → half_when_quoted side (price_of bid ask) (listed_row x events k) (listed_half x events k) ≡ listed_half x (events ++ quote_event side ∷ []) k
   quoted_half Put = put_half_quoted k (is_there Put) (is_there Call) (price_of bid ask) (old_price Put) (old_price Call) ∙ sym (half_says x (events ++ quote_event Put ∷ []) k _ _ _ _ put_quoted)
   quoted_half Call = call_half_quoted k (is_there Put) (is_there Call) (price_of bid ask) (old_price Put) (old_price Call) ∙ sym (half_says x (events ++ quote_event Call ∷ []) k _ _ _ _ call_quoted)
 
@@ -336,5 +345,5 @@ keeps_quoted time s bid ask events rows new_rows halves new_halves h sets =
 -- the rows of the expiry after an event that says nothing of its series
 pub rows_as_before : (x : Expiry) (events : List Event) (e : Event) → ((k : ℕ) → IsQuietAt x k e) → listed_rows x (events ++ e ∷ []) ≡ listed_rows x events
 rows_as_before x events e quiet =
-    same_from_items row_strike 0 0 (listed_rows x (events ++ e ∷ [])) (listed_rows x events) (listed_rows_rise x (events ++ e ∷ [])) (listed_rows_rise x events)
+    same_from_items row_strike 0 0 (listed_rows x (events ++ e ∷ [])) (listed_rows x events) (listed_rows_rise_by_strike x (events ++ e ∷ [])) (listed_rows_rise_by_strike x events)
     (λ k. listed_item x (events ++ e ∷ []) k ∙ row_says x (events ++ e ∷ []) k _ _ _ _ (says_as_before x events e k (quiet k)) ∙ sym (listed_item x events k))

@@ -1,5 +1,6 @@
 -- The first trades of every series after one more event.
-use Rattle.std.proofs.Common.{◌≡◌, ◌≢◌, ℕ, Bool, true, false, cond, List, [], ◌∷◌, ◌++◌, Option, Some, None, option_and_then, refl, sym, ◌∙◌, ap, subst, inl, inr}
+use Rattle.std.proofs.Common.{◌≡◌, ◌≢◌, ℕ, Bool, true, false, cond, List, [], ◌∷◌, ◌++◌, Option, Some, None, option_and_then, refl, sym, ◌∙◌, ap}
+use Rattle.std.proofs.Common.{subst, inl, inr}
 use Rattle.std.specs.Prelude.{option_map, find}
 use Rattle.std.specs.List.{list_any}
 use Rattle.std.specs.Option.{option_or, option_map_or}
@@ -25,14 +26,15 @@ use Rattle.vx_check.specs.declared.trades.FirstTrades.{FirstTrades}
 use Rattle.vx_check.specs.Rising.{item_at}
 use Rattle.vx_check.specs.Kept.{is_table_of}
 use Rattle.vx_check.specs.Trades.{SetsTrade, is_listed_in, price_of_trade, traded_at, traded_on, trades_strike, trades_when_traded}
-use Rattle.vx_check.specs.Tables.{row_strike, half_strike, AreBoth, AreRising, IsEmptyTable, IsSameTable, SetsRate, ListsInTable, QuotesInTable, TradesInTable, ChangesTable, SameTables, TakesTables, is_listed_in_table}
+use Rattle.vx_check.specs.Tables.{row_strike, half_strike, AreBoth, AreRising, IsEmptyTable, IsSameTable, SetsRate, ListsInTable, QuotesInTable}
+use Rattle.vx_check.specs.Tables.{TradesInTable, ChangesTable, SameTables, TakesTables, is_listed_in_table}
 use Rattle.vx_check.specs.StandsFor.{AreFirstTrades, only_side, listed_half}
 use Rattle.vx_check.specs.NextRows.{both_sides, listed_row}
 use Rattle.vx_check.proofs.Rising.{with_same}
-use Rattle.vx_check.proofs.TableLists.{same_expiry}
+use Rattle.vx_feed.proofs.SameLemmas.{expiry_from_same}
 use Rattle.vx_feed.proofs.NextRows.{apart_series, other_strike}
 use Rattle.vx_feed.proofs.SameAfter.{trade_opened, trade_same}
-use Rattle.vx_check.proofs.NextSeries.{Keeps, row_item, rows_rise, same_strike}
+use Rattle.vx_check.proofs.NextSeries.{Keeps, row_item, listed_rows_still_rise, same_strike}
 use Rattle.vx_check.proofs.NextTables.{AllSay, Says}
 
 -- ---- whether a series is listed
@@ -225,7 +227,7 @@ changed_as_before : (y : Expiry) (R : Table → Table → Type 0) → ((t u : Ta
     → (old new : List Table) → ChangesTable y R old new → AreTradesAsBefore old new
 changed_as_before y R same old new h x =
     elim (cases_Bool (is_same_expiry x y)) [
-      | inl is ↦ subst (λ z. trades_in (find (is_table_of z) new) ≡ trades_in (find (is_table_of z) old)) (sym (same_expiry x y is))
+      | inl is ↦ subst (λ z. trades_in (find (is_table_of z) new) ≡ trades_in (find (is_table_of z) old)) (sym (expiry_from_same x y is))
           (both_as_before R same (find (is_table_of y) old) (find (is_table_of y) new) h.own)
       | inr apart ↦ ap trades_in (h.others x apart)
     ]
@@ -257,7 +259,7 @@ own_traded (Some t) None time s cents events unopened range both says h = absurd
 own_traded (Some t) (Some u) time s cents events unopened range both says h =
     let x = expiry_of s in
     let listed : is_listed_in_table s.side s.strike t ≡ is_listed s events = kept_listed x events t.rows.items t.halves.items says.keeps s.side s.strike in
-    let rising : AreRising t = record { rows = rows_rise x events t.rows.items t.halves.items says.keeps; halves = says.keeps.halves_are.rises } in
+    let rising : AreRising t = record { rows = listed_rows_still_rise x events t.rows.items t.halves.items says.keeps; halves = says.keeps.halves_are.rises } in
     let Sets : Bool → Type 0 = λ b. SetsTrade b s.side s.strike (price_of_trade cents) t.trades.items u.trades.items in
     traded_now time s cents events t.trades.items u.trades.items unopened (subst Sets listed (both.sets range rising h.rises)) h
 
@@ -270,7 +272,7 @@ all_traded old new time s cents events unopened range h say all x =
     let e = event.Trade time s cents in
     elim (cases_Bool (is_same_expiry x y)) [
       | inl same ↦
-          subst (λ z. AreFirstTrades z (events ++ e ∷ []) (trades_in (find (is_table_of z) new))) (sym (same_expiry x y same))
+          subst (λ z. AreFirstTrades z (events ++ e ∷ []) (trades_in (find (is_table_of z) new))) (sym (expiry_from_same x y same))
           (own_traded (find (is_table_of y) old) (find (is_table_of y) new) time s cents events unopened range h.own (say y) (all y))
       | inr apart ↦
           subst (λ (o : Option Table). AreFirstTrades x (events ++ e ∷ []) (trades_in o)) (sym (h.others x apart))

@@ -1,5 +1,6 @@
 -- What inserting, removing and overwriting at a key's place do to a list in rising order.
-use Rattle.std.proofs.Common.{◌≡◌, ◌≢◌, ℕ, zero, suc, ◌+◌, ◌<◌, ◌≤◌, ◌==◌, true, false, cond, List, [], ◌∷◌, length, get_or, set, Option, Some, None, refl, sym, ◌∙◌, ap, subst, inl, inr, arith}
+use Rattle.std.proofs.Common.{◌≡◌, ◌≢◌, ℕ, zero, suc, ◌+◌, ◌<◌, ◌≤◌, ◌==◌, true, false, cond, List, [], ◌∷◌, length, get_or, set, Option, Some, None}
+use Rattle.std.proofs.Common.{refl, sym, ◌∙◌, ap, subst, inl, inr, arith}
 use Rattle.std.specs.List.{insert, remove}
 use Rattle.std.specs.List.Sorted.{IsPartitionPoint, IsPartitionedBy, IsNonDecreasingBy}
 use Rattle.std.proofs.lemmas.Bool.{cases_order, cases_eq, eq-eqb, ne_eqb, ltb-true, ltb-false}
@@ -31,7 +32,8 @@ module _ {X : Type 0} (key : X → ℕ) where
 
   -- ---- lists in rising order with the same items are the same
 
-  pub same_from_items : (low other : ℕ) (xs ys : List X) → RisesFrom key low xs → RisesFrom key other ys → ((k : ℕ) → item_at key k xs ≡ item_at key k ys) → xs ≡ ys
+  pub same_from_items : (low other : ℕ) (xs ys : List X) → RisesFrom key low xs → RisesFrom key other ys
+      → ((k : ℕ) → item_at key k xs ≡ item_at key k ys) → xs ≡ ys
   same_from_items low other [] [] r s h = refl
   same_from_items low other [] (y ∷ ys) r s h =
       let e : None ≡ Some y = h (key y) ∙ item_here (key y) y ys refl in absurd (cc e)
@@ -63,7 +65,8 @@ module _ {X : Type 0} (key : X → ℕ) where
 
   -- ---- an insert at the place where the key fits
 
-  insert_rises : (y : X) (place low : ℕ) (xs : List X) → FitsAt key (key y) place xs → RisesFrom key low xs → low ≤ key y → RisesFrom key low (insert xs place y)
+  insert_rises : (y : X) (place low : ℕ) (xs : List X) → FitsAt key (key y) place xs → RisesFrom key low xs → low ≤ key y
+      → RisesFrom key low (insert xs place y)
   insert_rises y zero low [] f r h = (h, tt)
   insert_rises y zero low (x ∷ xs) f r h = let a : key y < key x = f in (h, (omega arith, r.1))
   insert_rises y (suc place) low [] f r h = absurd f
@@ -78,7 +81,8 @@ module _ {X : Type 0} (key : X → ℕ) where
       let a : key x < key y = f.0 in
       item_past (key y) x (insert xs place y) (λ e. absurd (omega arith)) ∙ insert_at y place xs f.1
 
-  insert_others : (y : X) (k : ℕ) → (key y ≡ k → ⊥) → (place : ℕ) (xs : List X) → FitsAt key (key y) place xs → item_at key k (insert xs place y) ≡ item_at key k xs
+  insert_others : (y : X) (k : ℕ) → (key y ≡ k → ⊥) → (place : ℕ) (xs : List X) → FitsAt key (key y) place xs
+      → item_at key k (insert xs place y) ≡ item_at key k xs
   insert_others y k ne zero [] f = item_past k y [] ne
   insert_others y k ne zero (x ∷ xs) f = item_past k y (x ∷ xs) ne
   insert_others y k ne (suc place) [] f = absurd f
@@ -105,7 +109,8 @@ module _ {X : Type 0} (key : X → ℕ) where
       let a : key x < k = f.0 in
       item_past k x (remove xs place) (λ e. absurd (omega arith)) ∙ remove_at k place (key x + 1) xs f.1 r.1
 
-  remove_others : (k other : ℕ) → (k ≡ other → ⊥) → (place : ℕ) (xs : List X) → StandsAt key k place xs → item_at key other (remove xs place) ≡ item_at key other xs
+  remove_others : (k other : ℕ) → (k ≡ other → ⊥) → (place : ℕ) (xs : List X) → StandsAt key k place xs
+      → item_at key other (remove xs place) ≡ item_at key other xs
   remove_others k other ne place [] f = absurd f
   remove_others k other ne zero (x ∷ xs) f = let a : key x ≡ k = f in sym (item_past other x xs (λ e. ne (sym a ∙ e)))
   remove_others k other ne (suc place) (x ∷ xs) f = same_tail other x (remove xs place) xs (remove_others k other ne place xs f.1)
@@ -135,7 +140,8 @@ module _ {X : Type 0} (key : X → ℕ) where
       let a : key x < k = f.0 in
       item_past k x (set xs place y) (λ e. absurd (omega arith)) ∙ set_at y k place xs e f.1
 
-  set_others : (y : X) (k other : ℕ) → (k ≡ other → ⊥) → key y ≡ k → (place : ℕ) (xs : List X) → StandsAt key k place xs → item_at key other (set xs place y) ≡ item_at key other xs
+  set_others : (y : X) (k other : ℕ) → (k ≡ other → ⊥) → key y ≡ k → (place : ℕ) (xs : List X) → StandsAt key k place xs
+      → item_at key other (set xs place y) ≡ item_at key other xs
   set_others y k other ne e place [] f = absurd f
   set_others y k other ne e zero (x ∷ xs) f =
       let a : key x ≡ k = f in
@@ -196,7 +202,8 @@ module _ {X : Type 0} (key : X → ℕ) where
   pub is_partitioned : (k : ℕ) (xs : List X) → Rises key xs → IsPartitionedBy (λ x. nat_lt (key x) k) xs
   is_partitioned k xs r = IsPartitionedBy-ltb key xs k (does_not_fall 0 xs r)
 
-  fits_from : (k place : ℕ) (xs : List X) → place ≤ length xs → ((j : ℕ) (d : X) → j < place → key (get_or xs j d) < k) → ((j : ℕ) (d : X) → place ≤ j → j < length xs → k ≤ key (get_or xs j d))
+  fits_from : (k place : ℕ) (xs : List X) → place ≤ length xs → ((j : ℕ) (d : X) → j < place → key (get_or xs j d) < k)
+      → ((j : ℕ) (d : X) → place ≤ j → j < length xs → k ≤ key (get_or xs j d))
       → ((d : X) → place < length xs → key (get_or xs place d) ≡ k → ⊥) → FitsAt key k place xs
   fits_from k zero [] within low high other = tt
   fits_from k zero (x ∷ xs) within low high other =
@@ -221,11 +228,13 @@ module _ {X : Type 0} (key : X → ℕ) where
   abbrev pub IsFirstFrom : ℕ → ℕ → List X → Type 0
   IsFirstFrom k place xs = IsPartitionPoint (λ x. nat_lt (key x) k ≡ true) (λ x. nat_lt (key x) k ≡ false) xs place
 
-  pub fits_at_first : (k place : ℕ) (xs : List X) → place ≤ length xs → IsFirstFrom k place xs → ((d : X) → place < length xs → key (get_or xs place d) ≡ k → ⊥) → FitsAt key k place xs
+  pub fits_at_first : (k place : ℕ) (xs : List X) → place ≤ length xs → IsFirstFrom k place xs
+      → ((d : X) → place < length xs → key (get_or xs place d) ≡ k → ⊥) → FitsAt key k place xs
   fits_at_first k place xs within h other =
       fits_from k place xs within (λ j d l. ltb-true (key (get_or xs j d)) k (h.0 j d (omega arith) l)) (λ j d l m. ltb-false (key (get_or xs j d)) k (h.1 j d l m)) other
 
-  pub stands_at_first : (k place : ℕ) (xs : List X) → place < length xs → IsFirstFrom k place xs → ((d : X) → key (get_or xs place d) ≡ k) → StandsAt key k place xs
+  pub stands_at_first : (k place : ℕ) (xs : List X) → place < length xs → IsFirstFrom k place xs → ((d : X) → key (get_or xs place d) ≡ k)
+      → StandsAt key k place xs
   stands_at_first k place xs within h at =
       stands_from k place xs within (λ j d l. ltb-true (key (get_or xs j d)) k (h.0 j d (omega arith) l)) at
 

@@ -21,13 +21,15 @@ met_means days window events c fits lawful version met =
     let accepts : AcceptsFor days window events c = record { version = version; meets_all = met } in
     accepted_means days window events c fits lawful accepts
 
-pub yes_means : (events : List Event) (c : Certificate) (verdict : Verdict) → IsAnswerOver events c verdict → AreLawful events → IsVersion c.v → verdict ≡ Yes → Means events c
+pub yes_means : (events : List Event) (c : Certificate) (verdict : Verdict) → IsAnswerOver events c verdict → AreLawful events → IsVersion c.v
+    → verdict ≡ Yes → Means events c
 yes_means events c verdict answer lawful version e =
     let met : IsAnswerOver events c Yes = subst (IsAnswerOver events c) e answer in
     met_means INDEX_DAYS INDEX_WINDOW events c (omega arith) lawful version met
 
 -- only a certificate of kind index meets all tests of that kind
-as_index : (days window : ℕ) (events : List Event) (version line time : ℕ) (body : CertBody) → ((test : Test) → BodyMeetsAsIndex days window events version line time body test)
+as_index : (days window : ℕ) (events : List Event) (version line time : ℕ) (body : CertBody)
+    → ((test : Test) → BodyMeetsAsIndex days window events version line time body test)
     → (test : Test) → BodyMeets days window events version line time body test
 as_index days window events version line time (Index stated near next figure) met = met
 as_index days window events version line time (K0 x pair k0) met = absurd (met Place)

@@ -1,7 +1,8 @@
 -- The listed rows of an expiry by their strikes.
-use Rattle.std.proofs.Common.{◌≡◌, ℕ, ◌+◌, ◌≤◌, ◌⊎◌, Bool, true, false, cond, ◌&&◌, ◌||◌, ◌==◌, List, [], ◌∷◌, map, Option, Some, None, refl, sym, ◌∙◌, ap, subst, inl, inr, arith}
+use Rattle.std.proofs.Common.{◌≡◌, ℕ, ◌+◌, ◌≤◌, ◌⊎◌, Bool, true, false, cond, ◌&&◌, ◌||◌, ◌==◌, List, [], ◌∷◌, map, Option, Some, None, refl, sym}
+use Rattle.std.proofs.Common.{◌∙◌, ap, subst, inl, inr, arith}
 use Rattle.std.specs.List.{filter}
-use Rattle.std.proofs.lemmas.Bool.{cases_order, cases_eq, cases_Bool, eqb-true}
+use Rattle.std.proofs.lemmas.Bool.{and_parts, cases_order, cases_eq, cases_Bool, eqb-true}
 use Rattle.vx_clock.specs.declared.terms.Expiry.{Expiry}
 use Rattle.vx_symbol.specs.declared.symbols.Side.{Side}
 use Rattle.vx_symbol.specs.declared.symbols.Side.TheVariants.{Call, Put}
@@ -12,7 +13,8 @@ use Rattle.vx_feed.specs.declared.events.Event.{Event}
 use Rattle.vx_feed.specs.declared.events.Event.TheVariants as event
 use Rattle.vx_feed.specs.Same.{is_same_root, is_same_day, is_same_side, is_same_expiry}
 use Rattle.vx_feed.specs.Standing.{lists_series}
-use Rattle.vx_feed.specs.Listed.{expiry_of, insert_strike, is_listed, is_strike_listed, listed_rows, listed_strike, row_of, series_at, standing_price, strikes_of, with_strike}
+use Rattle.vx_feed.specs.Listed.{expiry_of, insert_strike, is_listed, is_strike_listed, listed_rows, listed_strike, row_of, series_at, standing_price}
+use Rattle.vx_feed.specs.Listed.{strikes_of, with_strike}
 use Rattle.vx_feed.proofs.NextEvent.{insert_strike-above, insert_strike-at, insert_strike-below}
 use Rattle.vx_feed.proofs.RisingStrikes.{RisesFrom as StrikesFrom, strikes_rise}
 use Rattle.vx_formula.proofs.Lists.{In}
@@ -20,7 +22,6 @@ use Rattle.vx_check.specs.Rising.{RisesFrom, Rises, item_at}
 use Rattle.vx_check.specs.Tables.{row_strike}
 use Rattle.vx_check.specs.NextRows.{both_sides, listed_row}
 use Rattle.vx_check.proofs.Rising.{item_here, item_past, rises_weaker}
-use Rattle.vx_check.proofs.TableLists.{and_both}
 
 or_cases : (a b : Bool) → (a || b) ≡ true → (a ≡ true) ⊎ (b ≡ true)
 or_cases true b h = inl refl
@@ -52,15 +53,16 @@ in_kept i k (j ∷ js) h =
       ]
     ]
 
-in_with : (o : Option ℕ) (i : ℕ) (js : List ℕ) → In js i → In (with_strike o js) i
-in_with None i js h = h
-in_with (Some k) i js h = in_kept i k js h
+still_in_with : (o : Option ℕ) (i : ℕ) (js : List ℕ) → In js i → In (with_strike o js) i
+still_in_with None i js h = h
+still_in_with (Some k) i js h = in_kept i k js h
 
 -- the strike of a series that an event lists
-listed_there : (x : Expiry) (side : Side) (k : ℕ) (e : Event) (js : List ℕ) → lists_series (series_at x side k) e ≡ true → In (with_strike (listed_strike x e) js) k
+listed_there : (x : Expiry) (side : Side) (k : ℕ) (e : Event) (js : List ℕ) → lists_series (series_at x side k) e ≡ true
+    → In (with_strike (listed_strike x e) js) k
 listed_there x side k (event.Series s) js h =
-    let parts = and_both (is_same_root x.root s.root && is_same_day x.date s.date && is_same_side side s.side) (k == s.strike) h in
-    let own = and_both (is_same_root x.root s.root && is_same_day x.date s.date) (is_same_side side s.side) parts.0 in
+    let parts = and_parts (is_same_root x.root s.root && is_same_day x.date s.date && is_same_side side s.side) (k == s.strike) h in
+    let own = and_parts (is_same_root x.root s.root && is_same_day x.date s.date) (is_same_side side s.side) parts.0 in
     let strike : k ≡ s.strike = eqb-true k s.strike parts.1 in
     let its : listed_strike x (event.Series s) ≡ Some s.strike = chosen (is_same_expiry x (expiry_of s)) s.strike own.0 in
     subst (λ (o : Option ℕ). In (with_strike o js) k) (sym its) (subst (λ (n : ℕ). In (insert_strike n js) k) strike (in_inserted k js)) where
@@ -81,7 +83,7 @@ listed_in_strikes x side k [] h = absurd cc
 listed_in_strikes x side k (e ∷ events) h =
     elim (or_cases (lists_series (series_at x side k) e) (is_listed (series_at x side k) events) h) [
       | inl here ↦ listed_there x side k e (strikes_of x events) here
-      | inr later ↦ in_with (listed_strike x e) k (strikes_of x events) (listed_in_strikes x side k events later)
+      | inr later ↦ still_in_with (listed_strike x e) k (strikes_of x events) (listed_in_strikes x side k events later)
     ]
 
 -- ---- the rows of the strikes that pass a test
@@ -96,14 +98,14 @@ module _ (price : Symbol → Price) (x : Expiry) (test : ℕ → Bool) where
   rows_fail : (j : ℕ) (js : List ℕ) → test j ≡ false → rows (j ∷ js) ≡ rows js
   rows_fail j js f = rw f refl
 
-  rows_rise : (low : ℕ) (ks : List ℕ) → StrikesFrom low ks → RisesFrom row_strike low (rows ks)
-  rows_rise low [] r = tt
-  rows_rise low (j ∷ js) r =
+  rows_from_rise : (low : ℕ) (ks : List ℕ) → StrikesFrom low ks → RisesFrom row_strike low (rows ks)
+  rows_from_rise low [] r = tt
+  rows_from_rise low (j ∷ js) r =
       let From : List StrikeRow → Type 0 = RisesFrom row_strike low in
       let a : low ≤ j = r.0 in
       elim (cases_Bool (test j)) [
-        | inl t ↦ subst From (sym (rows_pass j js t)) (a, rows_rise (j + 1) js r.1)
-        | inr f ↦ subst From (sym (rows_fail j js f)) (rises_weaker row_strike (j + 1) low (rows js) (omega arith) (rows_rise (j + 1) js r.1))
+        | inl t ↦ subst From (sym (rows_pass j js t)) (a, rows_from_rise (j + 1) js r.1)
+        | inr f ↦ subst From (sym (rows_fail j js f)) (rises_weaker row_strike (j + 1) low (rows js) (omega arith) (rows_from_rise (j + 1) js r.1))
       ]
 
   item_fails : (k : ℕ) → test k ≡ false → (ks : List ℕ) → item_at row_strike k (rows ks) ≡ None
@@ -132,8 +134,8 @@ module _ (price : Symbol → Price) (x : Expiry) (test : ℕ → Bool) where
             ]
       ]
 
-pub listed_rows_rise : (x : Expiry) (events : List Event) → Rises row_strike (listed_rows x events)
-listed_rows_rise x events = rows_rise (standing_price events) x (is_strike_listed x events) 0 (strikes_of x events) (strikes_rise x events)
+pub listed_rows_rise_by_strike : (x : Expiry) (events : List Event) → Rises row_strike (listed_rows x events)
+listed_rows_rise_by_strike x events = rows_from_rise (standing_price events) x (is_strike_listed x events) 0 (strikes_of x events) (strikes_rise x events)
 
 -- the row of a strike
 pub listed_item : (x : Expiry) (events : List Event) (k : ℕ) → item_at row_strike k (listed_rows x events) ≡ listed_row x events k

@@ -1,29 +1,22 @@
 -- The tables of all expiries after one of them is changed.
-use Rattle.std.proofs.Common.{◌≡◌, ℕ, zero, suc, ◌+◌, ◌<◌, ◌≤◌, Bool, true, false, cond, ◌&&◌, List, [], ◌∷◌, map, length, get_or, set, Option, Some, None, refl, sym, ◌∙◌, ap, subst, inl, inr, arith}
+use Rattle.std.proofs.Common.{◌≡◌, ℕ, zero, suc, ◌+◌, ◌<◌, ◌≤◌, Bool, true, false, cond, ◌&&◌, List, [], ◌∷◌, map, length, get_or, set, Option, Some}
+use Rattle.std.proofs.Common.{None, refl, sym, ◌∙◌, ap, subst, inl, inr, arith}
 use Rattle.std.specs.Prelude.{ℤ, nat_lt, MatchOption, find}
 use Rattle.std.specs.List.{position, position_or_len}
 use Rattle.std.specs.Ordering.{int_eq}
+use Rattle.std.proofs.Math.Numerals.{one-add}
 use Rattle.std.proofs.lemmas.Bool.{cases_lt, cases_Bool}
 use Rattle.std.proofs.lemmas.Bool.Decides.{Decides-int_eq, nat_tests}
 use Rattle.vx_clock.specs.declared.terms.Root.{Root}
 use Rattle.vx_clock.specs.declared.terms.Root.TheVariants.{Spx, Spxw}
 use Rattle.vx_clock.specs.declared.terms.Expiry.{Expiry}
 use Rattle.vx_feed.specs.Same.{is_same_root, is_same_day, is_same_expiry}
+use Rattle.vx_feed.proofs.SameLemmas.{expiry_from_same}
 use Rattle.vx_check.specs.declared.table.Table.{Table}
 use Rattle.vx_check.specs.Kept.{is_table_of}
 use Rattle.vx_check.specs.Tables.{IsFirstAt, AreBoth, IsSameTable, ChangesTable, SameTables, expiry_of_table}
 
 -- ---- sameness of expiries
-
-pub and_both : (a b : Bool) → (a && b) ≡ true → (a ≡ true) × (b ≡ true)
-and_both true b h = (refl, h)
-and_both false b h = absurd cc
-
-same_root : (a b : Root) → is_same_root a b ≡ true → a ≡ b
-same_root Spx Spx h = refl
-same_root Spx Spxw h = absurd cc
-same_root Spxw Spx h = absurd cc
-same_root Spxw Spxw h = refl
 
 root_self : (a : Root) → is_same_root a a ≡ true
 root_self Spx = refl
@@ -32,23 +25,10 @@ root_self Spxw = refl
 number_self : (z : ℤ) → int_eq z z ≡ true
 number_self z = (Decides-int_eq z z).1 refl
 
-abbrev expiry_with : Root → ℤ → Expiry
-expiry_with root z = record { root = root; date = record { 0 = z } }
-
-pub same_expiry : (a b : Expiry) → is_same_expiry a b ≡ true → a ≡ b
-same_expiry a b h =
-    let parts = and_both (is_same_root a.root b.root) (is_same_day a.date b.date) h in
-    let root : a.root ≡ b.root = same_root a.root b.root parts.0 in
-    let day : a.date.0 ≡ b.date.0 = (Decides-int_eq a.date.0 b.date.0).0 parts.1 in
-    ap (λ r. expiry_with r a.date.0) root ∙ ap (expiry_with b.root) day
-
 pub expiry_self : (a : Expiry) → is_same_expiry a a ≡ true
 expiry_self a = let r = root_self a.root in let d = number_self a.date.0 in rw (r, d) refl
 
 -- ---- the first place
-
-one_more : (n : ℕ) → 1 + n ≡ suc n
-one_more n = omega arith
 
 module _ {X : Type 0} (test : X → Bool) where
   abbrev place : List X → ℕ
@@ -66,14 +46,14 @@ module _ {X : Type 0} (test : X → Bool) where
       place_yes t = rw t refl
 
       place_no : test x ≡ false → place (x ∷ xs) ≡ suc (place xs)
-      place_no f = rw f (one_more (place xs))
+      place_no f = rw f (one-add (place xs))
 
   no_place : (xs : List X) → length xs ≤ place xs → find test xs ≡ None
   no_place [] h = refl
   no_place (x ∷ xs) h =
       elim (cases_Bool (test x)) [
         | inl t ↦ (let e : place (x ∷ xs) ≡ zero = rw t refl in absurd (omega arith))
-        | inr f ↦ (let e : place (x ∷ xs) ≡ suc (place xs) = rw f (one_more (place xs)) in rw f (no_place xs (omega arith)))
+        | inr f ↦ (let e : place (x ∷ xs) ≡ suc (place xs) = rw f (one-add (place xs)) in rw f (no_place xs (omega arith)))
       ]
 
   pub first_from_position : (xs : List X) → MatchOption (position test xs) (find test xs ≡ None) (λ n. IsFirstAt test n xs)
@@ -85,7 +65,8 @@ module _ {X : Type 0} (test : X → Bool) where
 
 -- ---- one table in the place of another of its expiry
 
-find_same_tail : (x : Expiry) (z : Table) (xs ys : List Table) → find (is_table_of x) xs ≡ find (is_table_of x) ys → find (is_table_of x) (z ∷ xs) ≡ find (is_table_of x) (z ∷ ys)
+find_same_tail : (x : Expiry) (z : Table) (xs ys : List Table) → find (is_table_of x) xs ≡ find (is_table_of x) ys
+    → find (is_table_of x) (z ∷ xs) ≡ find (is_table_of x) (z ∷ ys)
 find_same_tail x z xs ys e = ap (λ o. cond (is_table_of x z) (Some z) o) e
 
 find_past : (x : Expiry) (z : Table) (xs : List Table) → is_table_of x z ≡ false → find (is_table_of x) (z ∷ xs) ≡ find (is_table_of x) xs
@@ -94,12 +75,14 @@ find_past x z xs h = rw h refl
 find_here : (x : Expiry) (z : Table) (xs : List Table) → is_table_of x z ≡ true → find (is_table_of x) (z ∷ xs) ≡ Some z
 find_here x z xs h = rw h refl
 
-set_expiries : (place : ℕ) (xs : List Table) (new d : Table) → new.expiry ≡ (get_or xs place d).expiry → map expiry_of_table (set xs place new) ≡ map expiry_of_table xs
+set_expiries : (place : ℕ) (xs : List Table) (new d : Table) → new.expiry ≡ (get_or xs place d).expiry
+    → map expiry_of_table (set xs place new) ≡ map expiry_of_table xs
 set_expiries place [] new d e = refl
 set_expiries zero (z ∷ xs) new d e = ap (λ x. x ∷ map expiry_of_table xs) e
 set_expiries (suc place) (z ∷ xs) new d e = ap (λ l. z.expiry ∷ l) (set_expiries place xs new d e)
 
-set_own : (x : Expiry) (place : ℕ) (xs : List Table) (new d : Table) → IsFirstAt (is_table_of x) place xs → new.expiry ≡ (get_or xs place d).expiry → find (is_table_of x) (set xs place new) ≡ Some new
+set_own : (x : Expiry) (place : ℕ) (xs : List Table) (new d : Table) → IsFirstAt (is_table_of x) place xs → new.expiry ≡ (get_or xs place d).expiry
+    → find (is_table_of x) (set xs place new) ≡ Some new
 set_own x place [] new d f e = absurd f
 set_own x zero (z ∷ xs) new d f e = find_here x new xs (ap (is_same_expiry x) e ∙ f)
 set_own x (suc place) (z ∷ xs) new d f e = find_past x z (set xs place new) f.0 ∙ set_own x place xs new d f.1 e
@@ -109,11 +92,12 @@ first_own x place [] d f = absurd f
 first_own x zero (z ∷ xs) d f = find_here x z xs f
 first_own x (suc place) (z ∷ xs) d f = find_past x z xs f.0 ∙ first_own x place xs d f.1
 
-set_others : (x y : Expiry) → is_same_expiry y x ≡ false → (place : ℕ) (xs : List Table) (new d : Table) → IsFirstAt (is_table_of x) place xs → new.expiry ≡ (get_or xs place d).expiry
+set_others : (x y : Expiry) → is_same_expiry y x ≡ false → (place : ℕ) (xs : List Table) (new d : Table) → IsFirstAt (is_table_of x) place xs
+    → new.expiry ≡ (get_or xs place d).expiry
     → find (is_table_of y) (set xs place new) ≡ find (is_table_of y) xs
 set_others x y apart place [] new d f e = absurd f
 set_others x y apart zero (z ∷ xs) new d f e =
-    let its : x ≡ z.expiry = same_expiry x z.expiry f in
+    let its : x ≡ z.expiry = expiry_from_same x z.expiry f in
     let old_not : is_table_of y z ≡ false = sym (ap (is_same_expiry y) its) ∙ apart in
     let new_not : is_table_of y new ≡ false = ap (is_same_expiry y) e ∙ old_not in
     find_past y new xs new_not ∙ sym (find_past y z xs old_not)
@@ -145,7 +129,7 @@ pub same_from_changed : (x : Expiry) (xs ys : List Table) → ChangesTable x IsS
 same_from_changed x xs ys h = record {
   expiries = h.expiries;
   each = λ y. elim (cases_Bool (is_same_expiry y x)) [
-    | inl same ↦ subst (λ z. AreBoth IsSameTable (find (is_table_of z) xs) (find (is_table_of z) ys)) (sym (same_expiry y x same)) h.own
+    | inl same ↦ subst (λ z. AreBoth IsSameTable (find (is_table_of z) xs) (find (is_table_of z) ys)) (sym (expiry_from_same y x same)) h.own
     | inr apart ↦ subst (λ (o : Option Table). AreBoth IsSameTable (find (is_table_of y) xs) o) (sym (h.others y apart)) (same_itself (find (is_table_of y) xs))
   ];
 }

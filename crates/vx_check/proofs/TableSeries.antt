@@ -10,7 +10,8 @@ use Rattle.vx_feed.specs.Same.{is_same_side}
 use Rattle.vx_feed.specs.Listed.{no_price}
 use Rattle.vx_check.specs.declared.table.Half.{Half}
 use Rattle.vx_check.specs.Rising.{Rises, item_at, StandsAt, FitsAt, IsWith}
-use Rattle.vx_check.specs.Tables.{row_strike, half_strike, joined, row_when_listed, half_when_listed, row_with_price, half_with_price, half_when_quoted, ListsSeries}
+use Rattle.vx_check.specs.Tables.{row_strike, half_strike, joined, row_when_listed, half_when_listed, row_with_price, half_with_price}
+use Rattle.vx_check.specs.Tables.{half_when_quoted, ListsSeries}
 use Rattle.vx_check.proofs.Rising.{item_that_stands, key_that_stands, none_that_fits, with_inserted, with_removed, with_same}
 
 pub on_ok : {A E : Type 0} (r : Result A E) (P : Type 0) → (is_ok r ≡ true → P) → OnOk r P

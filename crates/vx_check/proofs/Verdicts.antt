@@ -2,7 +2,8 @@
 use Rattle.std.proofs.Common.{◌≡◌, ℕ, ◌+◌, ◌<◌, ◌≤◌, sym, subst, inl, inr, refl, arith}
 use Rattle.std.proofs.lemmas.Bool.{cases_lt}
 use Rattle.vx_claims.specs.declared.acceptance.Test.{Test}
-use Rattle.vx_claims.specs.declared.acceptance.Test.TheVariants.{Place, Terms, Minutes, Rate, TaylorTerms, Exponential, ClosestPair, Forward, Level, Excess, Strip, Contributions, Total, Variance, Square, IndexEnds}
+use Rattle.vx_claims.specs.declared.acceptance.Test.TheVariants.{Place, Terms, Minutes, Rate, TaylorTerms, Exponential, ClosestPair, Forward, Level}
+use Rattle.vx_claims.specs.declared.acceptance.Test.TheVariants.{Excess, Strip, Contributions, Total, Variance, Square, IndexEnds}
 use Rattle.vx_claims.specs.Test.{test_number}
 use Rattle.vx_tests.proofs.Numbered.{same_test}
 use Rattle.vx_check.specs.declared.verdict.Verdict.{Verdict}
@@ -49,9 +50,9 @@ last_number IndexEnds = omega arith
 
 module _ (M : Test → Type 0) where
   -- the tests below a number are met, and so is the one of that number
-  pub one_more : (n : ℕ) (test : Test) → test_number test ≡ n → ((other : Test) → test_number other < n → M other) → M test
+  pub met_one_further : (n : ℕ) (test : Test) → test_number test ≡ n → ((other : Test) → test_number other < n → M other) → M test
       → (other : Test) → test_number other < n + 1 → M other
-  one_more n test e before here other low =
+  met_one_further n test e before here other low =
       elim (cases_lt (test_number other) n) [
         | inl below ↦ before other below
         | inr from ↦ subst M (same_test test other (omega arith)) here
@@ -67,10 +68,10 @@ module _ (M : Test → Type 0) where
 -- ---- of the tests from one number to another
 
 module _ (M : Test → Type 0) (first : ℕ) where
-  pub one_more_from : (n : ℕ) (test : Test) → test_number test ≡ n
+  pub met_one_further_from : (n : ℕ) (test : Test) → test_number test ≡ n
       → ((other : Test) → first ≤ test_number other → test_number other < n → M other) → M test
       → (other : Test) → first ≤ test_number other → test_number other < n + 1 → M other
-  one_more_from n test e before here other high low =
+  met_one_further_from n test e before here other high low =
       elim (cases_lt (test_number other) n) [
         | inl below ↦ before other high below
         | inr from ↦ subst M (same_test test other (omega arith)) here

@@ -29,6 +29,7 @@ BodyMeetsAsIndex days window events version line time (Index stated near next fi
 BodyMeetsAsIndex days window events version line time _ Place = ⊥
 BodyMeetsAsIndex days window events version line time _ _ = Unit {0}
 
+-- a certificate meets a test as one of kind index
 abbrev pub MeetsAsIndex : ℕ → ℕ → List Event → Certificate → Test → Type 0
 MeetsAsIndex days window events c test = BodyMeetsAsIndex days window events c.v c.line c.time c.body test
 

@@ -18,6 +18,7 @@ is_kept x book = list_any (is_same_expiry x) book.expiries.items
 abbrev pub is_table_of : Expiry → Table → Bool
 is_table_of x table = is_same_expiry x table.expiry
 
+-- its table
 abbrev pub kept_table : Expiry → PlainBook → Option Table
 kept_table x book = find (is_table_of x) book.tables.items
 

@@ -9,6 +9,7 @@ use Rattle.vx_claims.specs.declared.acceptance.Test.TheVariants.{Square}
 use Rattle.vx_tests.specs.Ranges.{IsSquareInRange}
 use Rattle.vx_tests.specs.Terms.{NumbersMeet}
 
+-- of a figure: the square alone bounds what comes later
 abbrev pub FigureNumbersMeet : ℕ → CertFigure → Test → Type 0
 FigureNumbersMeet P figure Square = IsSquareInRange P figure.x
 FigureNumbersMeet P figure _ = Unit {0}
@@ -21,6 +22,7 @@ OneTermNumbersMeet P term figure test = NumbersMeet P term test × FigureNumbers
 abbrev pub TwoTermsNumbersMeet : ℕ → CertTerm → CertTerm → CertFigure → Test → Type 0
 TwoTermsNumbersMeet P near next figure test = NumbersMeet P near test × NumbersMeet P next test × FigureNumbersMeet P figure test
 
+-- of a body, by its kind; kind `k0` has none
 abbrev pub BodyNumbersMeet : ℕ → CertBody → Test → Type 0
 BodyNumbersMeet P (K0 x pair k0) test = Unit {0}
 BodyNumbersMeet P (Single term figure) test = OneTermNumbersMeet P term figure test

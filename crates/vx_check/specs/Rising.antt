@@ -7,9 +7,11 @@ abbrev pub RisesFrom : {X : Type 0} → (X → ℕ) → ℕ → List X → Type 
 RisesFrom key low [] = Unit {0}
 RisesFrom key low (x ∷ xs) = (low ≤ key x) × RisesFrom key (key x + 1) xs
 
+-- the keys rise, each once
 abbrev pub Rises : {X : Type 0} → (X → ℕ) → List X → Type 0
 Rises key xs = RisesFrom key 0 xs
 
+-- the item has this key
 abbrev pub has_key : {X : Type 0} → (X → ℕ) → ℕ → X → Bool
 has_key key k x = key x == k
 

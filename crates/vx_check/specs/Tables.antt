@@ -18,9 +18,11 @@ use Rattle.vx_check.specs.Kept.{is_table_of}
 use Rattle.vx_check.specs.Rising.{Rises, item_at, IsWith}
 use Rattle.vx_check.specs.Trades.{trades_strike, price_of_trade, is_listed_in, SetsTrade}
 
+-- the strike by which rows are kept in order
 abbrev pub row_strike : StrikeRow → ℕ
 row_strike row = row.strike
 
+-- the strike by which strikes with one side are kept in order
 abbrev pub half_strike : Half → ℕ
 half_strike half = half.strike
 
@@ -60,13 +62,25 @@ half_when_quoted side price (Some row) half = half
 
 -- ---- one table
 
+-- a row stands among those of a table, which rise in strike, in place of one of its strike
+abbrev pub PutsRow : StrikeRow → List StrikeRow → List StrikeRow → Type 0
+PutsRow row old new = Rises row_strike old → IsWith row_strike row.strike (Some row) old new
+
+-- a strike's only side has this price where it is this side, and the other strikes with one side are as they were
+abbrev pub SetsHalfPrice : Side → ℕ → Price → List Half → List Half → Type 0
+SetsHalfPrice side strike price old new = Rises half_strike old
+    → IsWith half_strike strike (option_map (half_with_price side price) (item_at half_strike strike old)) old new
+
+-- its rows, and its strikes with one side, rise in strike
 pub record AreRising (table : Table) : Type 0 where
   pub rows : Rises row_strike table.rows.items
   pub halves : Rises half_strike table.halves.items
 
+-- its first trades rise in strike
 abbrev pub AreTradesRising : Table → Type 0
 AreTradesRising table = Rises trades_strike table.trades.items
 
+-- the table of an expiry of which nothing was said yet
 pub record IsEmptyTable (x : Expiry) (table : Table) : Type 0 where
   pub expiry : table.expiry ≡ x
   pub rate : table.rate ≡ None
@@ -74,6 +88,7 @@ pub record IsEmptyTable (x : Expiry) (table : Table) : Type 0 where
   pub halves : table.halves.items ≡ []
   pub trades : table.trades.items ≡ []
 
+-- the table says what it said
 pub record IsSameTable (old new : Table) : Type 0 where
   pub expiry : new.expiry ≡ old.expiry
   pub rate : new.rate ≡ old.rate
@@ -81,6 +96,7 @@ pub record IsSameTable (old new : Table) : Type 0 where
   pub halves : new.halves.items ≡ old.halves.items
   pub trades : new.trades.items ≡ old.trades.items
 
+-- what a rate changes of the table of its expiry
 pub record SetsRate (rate : ℤ) (old new : Table) : Type 0 where
   pub expiry : new.expiry ≡ old.expiry
   pub rate_is : new.rate ≡ Some rate
@@ -98,12 +114,14 @@ pub record SetsPrice (side : Side) (strike : ℕ) (price : Price) (rows new_rows
   pub in_rows : IsWith row_strike strike (option_map (row_with_price side price) (item_at row_strike strike rows)) rows new_rows
   pub in_halves : IsWith half_strike strike (half_when_quoted side price (item_at row_strike strike rows) (item_at half_strike strike halves)) halves new_halves
 
+-- what listing a series changes of the table of its expiry
 pub record ListsInTable (side : Side) (strike : ℕ) (old new : Table) : Type 0 where
   pub expiry : new.expiry ≡ old.expiry
   pub rate : new.rate ≡ old.rate
   pub trades : new.trades.items ≡ old.trades.items
   pub series : AreRising old → ListsSeries side strike old.rows.items new.rows.items old.halves.items new.halves.items
 
+-- what a price of a series changes of the table of its expiry
 pub record SetsPriceInTable (side : Side) (strike : ℕ) (price : Price) (old new : Table) : Type 0 where
   pub expiry : new.expiry ≡ old.expiry
   pub rate : new.rate ≡ old.rate
@@ -159,6 +177,7 @@ AreBoth R None None = Unit {0}
 AreBoth R (Some a) (Some b) = R a b
 AreBoth R _ _ = ⊥
 
+-- the expiry of a table
 abbrev pub expiry_of_table : Table → Expiry
 expiry_of_table table = table.expiry
 
@@ -179,13 +198,15 @@ pub record AddsTable (x : Expiry) (old new : List Table) : Type 0 where
   pub is_empty : IsEmptyTable x table
   pub added : new ≡ old ++ table ∷ []
 
--- a series is listed, is quoted, or trades before the opening
+-- a series is listed
 abbrev pub ListsIn : Symbol → List Table → List Table → Type 0
 ListsIn s old new = ChangesTable (expiry_of s) (ListsInTable s.side s.strike) old new
 
+-- a series is quoted
 abbrev pub QuotesIn : Symbol → ℕ → ℕ → List Table → List Table → Type 0
 QuotesIn s bid ask old new = ChangesTable (expiry_of s) (QuotesInTable s.side s.strike bid ask) old new
 
+-- a series trades before the opening
 abbrev pub TradesIn : Symbol → ℕ → List Table → List Table → Type 0
 TradesIn s cents old new = ChangesTable (expiry_of s) (TradesInTable s.side s.strike cents) old new
 

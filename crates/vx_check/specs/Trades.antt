@@ -12,6 +12,7 @@ use Rattle.vx_check.specs.declared.table.Half.{Half}
 use Rattle.vx_check.specs.declared.trades.FirstTrades.{FirstTrades}
 use Rattle.vx_check.specs.Rising.{Rises, item_at, IsWith}
 
+-- the strike by which first trades are kept in order
 abbrev pub trades_strike : FirstTrades → ℕ
 trades_strike trades = trades.strike
 

@@ -40,8 +40,8 @@ impl PlainBook {
             lines: 0,
             day: None,
             tick: None,
-            expiries: Vec::with_capacity(alloc, EXPIRIES_MAX).map_err(|_| NoMemory)?,
-            tables: Vec::with_capacity(alloc, EXPIRIES_MAX).map_err(|_| NoMemory)?,
+            expiries: Vec::with_capacity(alloc, EXPIRIES_MAX)?,
+            tables: Vec::with_capacity(alloc, EXPIRIES_MAX)?,
             opening: None,
             alloc,
         })
@@ -49,7 +49,8 @@ impl PlainBook {
 
     /// Takes the next event. After a refusal the book stands for the events that it stood for before.
     pub fn push(&mut self, e: Event) -> Result<(), NoMemory>
-        ensures taken { (events : List Event) → StandsFor self.old events → IsLawfulNext events e → OnOk result (StandsFor self.new (events ++ e ∷ [])) }
+        ensures taken { (events : List Event) → StandsFor self.old events → IsLawfulNext events e
+            → OnOk result (StandsFor self.new (events ++ e ∷ [])) }
         ensures refused { (events : List Event) → StandsFor self.old events → OnErr result (StandsFor self.new events) }
     {
         self.take(e)?;
@@ -148,9 +149,7 @@ impl PlainBook {
         ensures taken { OnOk result (Takes self.old (Event.Expiry expiry) self.new) }
         ensures refused { OnErr result (IsSameBook self.old self.new) }
     {
-        self.tables
-            .push(Table::new(self.alloc, expiry))
-            .map_err(|_| NoMemory)?;
+        self.tables.push(Table::new(self.alloc, expiry))?;
         if self.expiries.push(expiry).is_err() {
             let _ = self.tables.pop();
             return Err(NoMemory);

@@ -97,7 +97,8 @@ fn both_meet(
     ensures exact { (events : List Event) (line : ℕ) → IsAtTick book.now events line time
         → (IsTrue result ↔ (TermMeetsAt events version line time near.now test
         × TermMeetsAt events version line time next.now test)) }
-    ensures numbers { IsTrue result → NumbersMeet (scale_of version) near.now test × NumbersMeet (scale_of version) next.now test }
+    ensures numbers { IsTrue result → NumbersMeet (scale_of version) near.now test
+        × NumbersMeet (scale_of version) next.now test }
 {
     term_meets(book, version, time, near, test) && term_meets(book, version, time, next, test)
 }

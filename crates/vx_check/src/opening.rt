@@ -65,11 +65,9 @@ fn opening_rows(
 ) -> Result<Vec<StrikeRow>, NoMemory>
     ensures { IfOk result (λ opening. AreRowsAtOpening trades.now rows.now opening.items) }
 {
-    let mut opening = Vec::with_capacity(alloc, rows.len()).map_err(|_| NoMemory)?;
+    let mut opening = Vec::with_capacity(alloc, rows.len())?;
     for row in rows {
-        opening
-            .push(trades::row_at_opening(trades, row))
-            .map_err(|_| NoMemory)?;
+        opening.push(trades::row_at_opening(trades, row))?;
     }
     Ok(opening)
 }

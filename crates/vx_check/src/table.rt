@@ -1,9 +1,11 @@
 //! The series of one expiry, in rising order of strike.
 
-ghost use Rattle.std.specs.Prelude.{◌≡◌, ◌≤◌, length, None, Some, IfOk, OnOk, OnErr, option_map};
+ghost use Rattle.std.specs.Prelude.{◌≡◌, ◌≤◌, length, None, IfOk, OnOk, OnErr};
 ghost use Rattle.vx_feed.specs.Same.{is_same_side};
-ghost use Rattle.vx_check.specs.Rising.{Rises, IsPlaceOfKey, IsPlaceFrom, IsPlaceWithin, IsWith, item_at};
-ghost use Rattle.vx_check.specs.Tables.{row_strike, half_strike, joined, row_with_price, half_with_price, is_listed_in_table, AreRising, IsEmptyTable, IsSameTable, ListsInTable, SetsPriceInTable, SetsTradeInTable};
+ghost use Rattle.vx_check.specs.Rising.{Rises, IsPlaceOfKey, IsPlaceFrom, IsPlaceWithin, item_at};
+ghost use Rattle.vx_check.specs.Tables.{row_strike, half_strike, joined, row_with_price, half_with_price, is_listed_in_table};
+ghost use Rattle.vx_check.specs.Tables.{AreRising, IsEmptyTable, IsSameTable, ListsInTable, PutsRow, SetsHalfPrice};
+ghost use Rattle.vx_check.specs.Tables.{SetsPriceInTable, SetsTradeInTable};
 ghost use Rattle.vx_check.specs.Trades.{is_listed_in};
 ghost use Rattle.vx_check.specs.Opening.{IsTermOfTable};
 
@@ -73,7 +75,7 @@ impl Table {
                     side,
                     price: NO_PRICE,
                 };
-                self.halves.insert(place, half).map_err(|_| NoMemory)
+                Ok(self.halves.insert(place, half)?)
             }
         }
     }
@@ -200,7 +202,7 @@ fn joined(half: Half, side: Side) -> StrikeRow
 }
 
 fn insert_row(rows: &mut Vec<StrikeRow>, row: StrikeRow) -> Result<(), NoMemory>
-    ensures inserted { OnOk result (Rises row_strike rows.old.items → IsWith row_strike row.strike (Some row) rows.old.items rows.new.items) }
+    ensures inserted { OnOk result (PutsRow row rows.old.items rows.new.items) }
     ensures refused { OnErr result (rows.new.items ≡ rows.old.items) }
 {
     match place_of_row(rows.as_slice(), row.strike) {
@@ -208,7 +210,7 @@ fn insert_row(rows: &mut Vec<StrikeRow>, row: StrikeRow) -> Result<(), NoMemory>
             rows[place] = row;
             Ok(())
         }
-        Err(place) => rows.insert(place, row).map_err(|_| NoMemory),
+        Err(place) => Ok(rows.insert(place, row)?),
     }
 }
 
@@ -234,7 +236,7 @@ fn half_with_price(half: Half, side: Side, price: Price) -> Half
 }
 
 fn set_half(halves: &mut Vec<Half>, side: Side, strike: u32, price: Price)
-    ensures { Rises half_strike halves.old.items → IsWith half_strike strike (option_map (half_with_price side price) (item_at half_strike strike halves.old.items)) halves.old.items halves.new.items }
+    ensures { SetsHalfPrice side strike price halves.old.items halves.new.items }
 {
     if let Ok(place) = place_of_half(halves.as_slice(), strike) {
         halves[place] = half_with_price(halves[place], side, price);

@@ -31,9 +31,10 @@ pub fn keep_first(
             trades[place] = with_trade(trades[place], side, price);
             Ok(())
         }
-        Err(place) => trades
-            .insert(place, with_trade(no_trades(strike), side, price))
-            .map_err(|_| NoMemory),
+        Err(place) => {
+            let first = with_trade(no_trades(strike), side, price);
+            Ok(trades.insert(place, first)?)
+        }
     }
 }
 

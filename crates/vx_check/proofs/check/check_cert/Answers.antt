@@ -6,7 +6,7 @@ use Rattle.vx_claims.specs.Accepts.{scale_of, Meets}
 use Rattle.vx_check.specs.declared.verdict.Verdict.TheVariants.{Yes, No}
 use Rattle.vx_check.specs.Numbers.{BodyNumbersMeet}
 use Rattle.vx_check.specs.Reached.{IsReached}
-use Rattle.vx_check.proofs.Verdicts.{first_number, one_more, fails_at, all_met}
+use Rattle.vx_check.proofs.Verdicts.{first_number, met_one_further, fails_at, all_met}
 use Rattle.vx_check.proofs.Sound.{yes_means}
 use Rattle.vx_check.proofs.check.check_cert.Goals as goal
 
@@ -27,9 +27,9 @@ loop-number-preserved c =
     let at : test_number test ≡ number = c.numbered.ensures in
     let met = c.if-not-cert_meets.false in
     record {
-      numbers = one_more (BodyNumbersMeet (scale_of cert.v) cert.body) number test at c.loop-number.invariant.numbers (c.cert_meets.ensures.numbers met);
+      numbers = met_one_further (BodyNumbersMeet (scale_of cert.v) cert.body) number test at c.loop-number.invariant.numbers (c.cert_meets.ensures.numbers met);
       tests = λ events reached lawful.
-          one_more (Meets events cert) number test at (c.loop-number.invariant.tests events reached lawful)
+          met_one_further (Meets events cert) number test at (c.loop-number.invariant.tests events reached lawful)
           ((c.cert_meets.ensures.exact events reached lawful (λ other low. c.loop-number.invariant.tests events reached lawful other (omega arith))).0 met);
     }
 

@@ -7,7 +7,7 @@ use Rattle.vx_check.specs.Answers.{MeetsAsIndex}
 use Rattle.vx_check.specs.declared.verdict.Verdict.TheVariants.{Yes, No}
 use Rattle.vx_check.specs.Numbers.{IndexNumbersMeet}
 use Rattle.vx_check.specs.Reached.{IsReached}
-use Rattle.vx_check.proofs.Verdicts.{first_number, one_more, fails_at, all_met}
+use Rattle.vx_check.proofs.Verdicts.{first_number, met_one_further, fails_at, all_met}
 use Rattle.vx_check.proofs.Sound.{index_yes_means}
 use Rattle.vx_check.proofs.index.check_index.Goals as goal
 
@@ -28,9 +28,9 @@ loop-number-preserved c =
     let at : test_number test ≡ number = c.numbered.ensures in
     let met = c.if-not-index_meets.false in
     record {
-      numbers = one_more (IndexNumbersMeet (scale_of cert.v) cert.body) number test at c.loop-number.invariant.numbers (c.index_meets.ensures.numbers met);
+      numbers = met_one_further (IndexNumbersMeet (scale_of cert.v) cert.body) number test at c.loop-number.invariant.numbers (c.index_meets.ensures.numbers met);
       tests = λ events reached.
-          one_more (MeetsAsIndex c.args.days c.args.window events cert) number test at (c.loop-number.invariant.tests events reached)
+          met_one_further (MeetsAsIndex c.args.days c.args.window events cert) number test at (c.loop-number.invariant.tests events reached)
           ((c.index_meets.ensures.exact events reached (λ other low. c.loop-number.invariant.tests events reached other (omega arith))).0 met);
     }
 

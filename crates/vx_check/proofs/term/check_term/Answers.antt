@@ -5,7 +5,7 @@ use Rattle.vx_claims.specs.Test.{test_number}
 use Rattle.vx_claims.specs.Accepts.{scale_of, TermMeetsAt}
 use Rattle.vx_tests.specs.Terms.{NumbersMeet}
 use Rattle.vx_check.specs.Reached.{IsReached}
-use Rattle.vx_check.proofs.Verdicts.{one_more_from, fails_from, met_from}
+use Rattle.vx_check.proofs.Verdicts.{met_one_further_from, fails_from, met_from}
 use Rattle.vx_check.proofs.term.check_term.Goals as goal
 
 pub loop-number-init : goal.loop-number-init
@@ -28,9 +28,9 @@ loop-number-preserved c =
     let from = c.loop-number.invariant.from in
     record {
       from = omega arith;
-      numbers = one_more_from (NumbersMeet (scale_of a.v) a.t.now) (test_number Exponential) number test at c.loop-number.invariant.numbers (c.term_meets_at.ensures.numbers met);
+      numbers = met_one_further_from (NumbersMeet (scale_of a.v) a.t.now) (test_number Exponential) number test at c.loop-number.invariant.numbers (c.term_meets_at.ensures.numbers met);
       tests = λ events reached.
-          one_more_from (TermMeetsAt events a.v a.line a.time a.t.now) a.first number test at (c.loop-number.invariant.tests events reached)
+          met_one_further_from (TermMeetsAt events a.v a.line a.time a.t.now) a.first number test at (c.loop-number.invariant.tests events reached)
           ((c.term_meets_at.ensures.exact events reached).0 met);
     }
 

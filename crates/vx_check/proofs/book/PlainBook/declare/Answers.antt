@@ -1,10 +1,10 @@
-use Rattle.std.proofs.Common.{◌≡◌, ◌++◌, ◌∷◌, [], sym, ◌∙◌, ap, refl, true, rules}
+use Rattle.std.proofs.Common.{◌≡◌, ◌++◌, ◌∷◌, [], ap, refl, true, rules}
 use Rattle.std.specs.Prelude.{is_ok}
 use Rattle.vx_check.proofs.book.PlainBook.declare.Goals as goal
 
 pub returns-clause-taken : goal.returns-clause-taken
 returns-clause-taken c =
-    let done : is_ok c.push.result ≡ true = sym c.map_err.ensures.variant ∙ ap is_ok c.in_ok-map_err.was in
+    let done : is_ok c.push.result ≡ true = ap is_ok c.in_ok-push.was in
     let items : c.push.new.self.items ≡ c.args.self.now.tables.items ++ c.new.result ∷ [] = rw done at c.push.ensures.items in
     record {
       lines = refl;
