@@ -1,5 +1,6 @@
 -- The worked certificates, tested one test after another.
-use Rattle.std.proofs.Common.{◌≡◌, refl, sym, subst, ap, ℕ, zero, suc, ◌+◌, ◌*◌, ◌^◌, ◌<◌, ◌≤◌, pos, ◌≤ℤ◌, ◌<ℤ◌, [], ◌∷◌, Some, inl, inr, lit≤, lit<, le→leb, arith}
+use Rattle.std.proofs.Common.{◌≡◌, refl, sym, subst, ap, ℕ, zero, suc, ◌+◌, ◌*◌, ◌^◌, ◌<◌, ◌≤◌, pos, ◌≤ℤ◌, ◌<ℤ◌, [], ◌∷◌, Some, inl, inr, lit≤, lit<}
+use Rattle.std.proofs.Common.{le→leb, arith}
 use Rattle.std.specs.Prelude.{IsTrue, replicate}
 use Rattle.std.specs.List.{All, slice_index}
 use Rattle.std.proofs.lemmas.Int.{ints}
@@ -18,7 +19,8 @@ use Rattle.vx_formula.specs.Level.{strikes}
 use Rattle.vx_formula.specs.Examples.{at_cents, row_at, sample_rows}
 use Rattle.vx_formula.proofs.Lists.{In, in_from_contains}
 use Rattle.vx_claims.specs.declared.acceptance.Test.{Test}
-use Rattle.vx_claims.specs.declared.acceptance.Test.TheVariants.{Place, Terms, Minutes, Rate, TaylorTerms, Exponential, ClosestPair, Forward, Level, Excess, Strip, Contributions, Total, Variance, Square, IndexEnds}
+use Rattle.vx_claims.specs.declared.acceptance.Test.TheVariants.{Place, Terms, Minutes, Rate, TaylorTerms, Exponential, ClosestPair, Forward, Level}
+use Rattle.vx_claims.specs.declared.acceptance.Test.TheVariants.{Excess, Strip, Contributions, Total, Variance, Square, IndexEnds}
 use Rattle.vx_claims.specs.Test.{test_number}
 use Rattle.vx_claims.specs.Seen.{IsTickAt, events_before, moment_of, term_facts}
 use Rattle.vx_claims.specs.Exponential.{AreTaylorTerms, EncloseExponential}
@@ -26,12 +28,14 @@ use Rattle.vx_claims.specs.TermTests.{IsLevelOfEnds, HasStrikeAbove, IsStatedStr
 use Rattle.vx_claims.specs.FigureTests.{EnclosesSingleSquare, EnclosesIndex}
 use Rattle.vx_claims.specs.Accepts.{scale_of, zero_rate_forward, TermMeetsAt, SingleMeets, Meets}
 use Rattle.vx_laws.specs.FeedDays.{september_17, standard, half_past_eight, sample_feed}
-use Rattle.vx_laws.specs.Certificates.{stated_ends, priced_row, taylor_from, first_rows, first_term, first_square, second_rows, second_term, second_square, level_certificate, LevelIsAccepted, WrongLineFails, WrongPairFails, LowLevelFails, FirstVersionIsAccepted, HighTaylorFails, OtherVersionFails, LowRowFails, WideEndsFail, SecondVersionIsAccepted}
+use Rattle.vx_laws.specs.Certificates.{stated_ends, priced_row, taylor_from, first_rows, first_term, first_square, second_rows, second_term}
+use Rattle.vx_laws.specs.Certificates.{second_square, level_certificate, LevelIsAccepted, WrongLineFails, WrongPairFails, LowLevelFails}
+use Rattle.vx_laws.specs.Certificates.{FirstVersionIsAccepted, HighTaylorFails, OtherVersionFails, LowRowFails, WideEndsFail, SecondVersionIsAccepted}
 
 -- ---- what the feed shows at the tick
 
-is_tick : IsTickAt sample_feed 14 half_past_eight
-is_tick = (lit≤ tt, refl)
+line_14_is_tick : IsTickAt sample_feed 14 half_past_eight
+line_14_is_tick = (lit≤ tt, refl)
 
 declared : IsTrue (is_declared standard (events_before sample_feed 14))
 declared = refl
@@ -109,8 +113,9 @@ abbrev forward : Ends
 forward = zero_rate_forward 60 (record { strike = 2000000; d = pos 0 })
 
 -- before its level, and at it where the level holds
-level_meets : (n k : ℕ) → (9 < n → IsLevelOfEnds 60 sample_rows forward k) → (test : Test) → test_number test < n → Meets sample_feed (level_certificate 14 (pos 0) k) test
-level_meets n k level Place h = is_tick
+level_meets : (n k : ℕ) → (9 < n → IsLevelOfEnds 60 sample_rows forward k) → (test : Test) → test_number test < n
+    → Meets sample_feed (level_certificate 14 (pos 0) k) test
+level_meets n k level Place h = line_14_is_tick
 level_meets n k level Terms h = declared
 level_meets n k level Minutes h = tt
 level_meets n k level Rate h = refl
@@ -141,7 +146,7 @@ wrong_line_fails = record {
 
 -- before the closest pair no test asks for the pair
 before_pair : (test : Test) → test_number test < 7 → Meets sample_feed (level_certificate 14 (pos 1) 2000000) test
-before_pair Place h = is_tick
+before_pair Place h = line_14_is_tick
 before_pair Terms h = declared
 before_pair Minutes h = tt
 before_pair Rate h = refl
@@ -180,7 +185,7 @@ low_level_fails = record {
 seen : (version : ℕ) (term : CertTerm) (test : Test) → term.expiry ≡ standard → TermMeets (scale_of version) facts term test
     → TermMeetsAt sample_feed version 14 half_past_eight term test
 seen version term test of meets = record {
-  is_tick = is_tick;
+  is_tick = line_14_is_tick;
   day = september_17;
   day_is = refl;
   meets =
@@ -193,7 +198,7 @@ before_number : (n version : ℕ) (term : CertTerm) (figure : CertFigure) → te
     → ((test : Test) → test_number test < n → TermMeets (scale_of version) facts term test)
     → (15 < n → EnclosesSingleSquare (scale_of version) term.w figure.x) → (16 < n → EnclosesIndex (scale_of version) figure)
     → (test : Test) → test_number test < n → SingleMeets sample_feed version 14 half_past_eight term figure test
-before_number n version term figure of minutes rate own square index Place h = is_tick
+before_number n version term figure of minutes rate own square index Place h = line_14_is_tick
 before_number n version term figure of minutes rate own square index Terms h = subst (λ (x : Expiry). IsTrue (is_declared x (events_before sample_feed 14))) (sym of) declared
 before_number n version term figure of minutes rate own square index Minutes h = (seen version term Minutes of (own Minutes h), minutes)
 before_number n version term figure of minutes rate own square index Rate h = (seen version term Rate of (own Rate h), rate)
@@ -233,8 +238,8 @@ taylor P = record {
 not_negative : pos 0 <ℤ pos 0 → ⊥
 not_negative h = elim h.lt [ ]
 
-exponential : (P : ℕ) → EncloseExponential P (pos 0) (taylor_from (2 ^ P)) (taylor_from (2 ^ P)) (stated_ends (2 ^ P) (2 ^ P))
-exponential P = record {
+taylor_gives_one : (P : ℕ) → EncloseExponential P (pos 0) (taylor_from (2 ^ P)) (taylor_from (2 ^ P)) (stated_ends (2 ^ P) (2 ^ P))
+taylor_gives_one P = record {
   not_negative = omega (arith, ints);
   in_order = omega (arith, ints);
   in_range = omega (arith, ints);
@@ -281,14 +286,15 @@ contributions_2 =
     (record { in_order = lit≤ tt; in_range = lit≤ tt; low = lit≤ tt; high = lit≤ tt })
 
 -- before the contributions, at them and at the sum where these hold
-own_1 : (n upper : ℕ) → (12 < n → All (EnclosesContribution 60) (first_rows upper)) → (13 < n → EnclosesTotal 60 (first_rows upper) (stated_ends 2021954166356443 2021954166356446))
+own_1 : (n upper : ℕ) → (12 < n → All (EnclosesContribution 60) (first_rows upper))
+    → (13 < n → EnclosesTotal 60 (first_rows upper) (stated_ends 2021954166356443 2021954166356446))
     → (test : Test) → test_number test < n → TermMeets 60 facts (first_term 1152921504606846976 upper) test
 own_1 n upper parts total Place h = tt
 own_1 n upper parts total Terms h = tt
 own_1 n upper parts total Minutes h = refl
 own_1 n upper parts total Rate h = refl
 own_1 n upper parts total TaylorTerms h = taylor 60
-own_1 n upper parts total Exponential h = exponential 60
+own_1 n upper parts total Exponential h = taylor_gives_one 60
 own_1 n upper parts total ClosestPair h = pair_is
 own_1 n upper parts total Forward h = record { low_at_low = le_z_yes tt; low_at_high = le_z_yes tt; high_at_low = le_z_yes tt; high_at_high = le_z_yes tt; low_range = (le_z_yes tt, le_z_yes tt); high_range = (le_z_yes tt, le_z_yes tt) }
 own_1 n upper parts total Level h = (is_level 60 (stated_ends 2305843009213693952000000 2305843009213693952000000) (le_z_yes tt) (lt_z_yes tt), strike_above)
@@ -309,7 +315,7 @@ own_2 Terms h = tt
 own_2 Minutes h = refl
 own_2 Rate h = refl
 own_2 TaylorTerms h = taylor 62
-own_2 Exponential h = exponential 62
+own_2 Exponential h = taylor_gives_one 62
 own_2 ClosestPair h = pair_is
 own_2 Forward h = record { low_at_low = le_z_yes tt; low_at_high = le_z_yes tt; high_at_low = le_z_yes tt; high_at_high = le_z_yes tt; low_range = (le_z_yes tt, le_z_yes tt); high_range = (le_z_yes tt, le_z_yes tt) }
 own_2 Level h = (is_level 62 (stated_ends 9223372036854775808000000 9223372036854775808000000) (le_z_yes tt) (lt_z_yes tt), strike_above)

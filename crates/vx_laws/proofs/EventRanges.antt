@@ -1,5 +1,6 @@
 -- The event that a line says is in range.
-use Rattle.std.proofs.Common.{◌≡◌, subst, refl, ℕ, ◌+◌, ◌*◌, ◌≤◌, Bool, true, false, cond, not, ◌&&◌, List, [], ◌∷◌, take, drop, slice_range, slice_index, length, ℤ, pos, neg_ℤ, Option, Some, None, Result, Ok, Err, arith}
+use Rattle.std.proofs.Common.{◌≡◌, subst, refl, ℕ, ◌+◌, ◌*◌, ◌≤◌, Bool, true, false, cond, not, ◌&&◌, List, [], ◌∷◌, take, drop, slice_range}
+use Rattle.std.proofs.Common.{slice_index, length, ℤ, pos, neg_ℤ, Option, Some, None, Result, Ok, Err, arith}
 use Rattle.std.specs.Prelude.{nat_le, nat_lt, ◌==◌}
 use Rattle.std.specs.Option.{option_map}
 use Rattle.std.specs.Result.{result_ok}
@@ -17,7 +18,8 @@ use Rattle.vx_clock.specs.Day.{IsDayInRange, day_number, is_year_in_range, is_in
 use Rattle.vx_clock.specs.Digits.{are_digits, digits_value}
 use Rattle.vx_clock.proofs.DayNumbers.{days_from_civil_range}
 use Rattle.vx_symbol.specs.Rows.{IsRateInRange}
-use Rattle.vx_symbol.specs.Symbol.{date_of_digits, strike_of, side_of, root_of, is_strike_in_range, IsStrikeInRange, IsSymbolInRange, symbol_of_fields, symbol_of_text}
+use Rattle.vx_symbol.specs.Symbol.{date_of_digits, strike_of, side_of, root_of, is_strike_in_range, IsStrikeInRange, IsSymbolInRange}
+use Rattle.vx_symbol.specs.Symbol.{symbol_of_fields, symbol_of_text}
 use Rattle.vx_symbol.specs.declared.symbols.Side.{Side}
 use Rattle.vx_symbol.specs.declared.symbols.Symbol.{Symbol}
 use Rattle.vx_symbol.specs.declared.symbols.SymbolFault.TheVariants.{Length}
@@ -28,7 +30,9 @@ use Rattle.vx_feed.specs.declared.kinds.Kind.{Kind}
 use Rattle.vx_feed.specs.declared.kinds.Kind.TheVariants as kind
 use Rattle.vx_clock.specs.Clock.{has_time_form, minute_of, time_of_text}
 use Rattle.vx_clock.specs.RootText.{root_of_text}
-use Rattle.vx_feed.specs.Form.{is_version, date_of_text, rate_of_text, price_of_text, if_positive, count_of_text, series_of_text, header_event, expiry_event, rate_event, series_event, quote_event, trade_event, tick_event, opening_event, end_event, field, field_count, kind_of_text, event_of_kind, event_if_counted, event_of_fields}
+use Rattle.vx_feed.specs.Form.{is_version, date_of_text, rate_of_text, price_of_text, if_positive, count_of_text, series_of_text, header_event}
+use Rattle.vx_feed.specs.Form.{expiry_event, rate_event, series_event, quote_event, trade_event, tick_event, opening_event, end_event, field}
+use Rattle.vx_feed.specs.Form.{field_count, kind_of_text, event_of_kind, event_if_counted, event_of_fields}
 use Rattle.vx_feed.specs.Ranges.{IsMinute, IsPrice, IsInRange}
 
 -- ---- what an answer says of the tests before it
@@ -130,7 +134,8 @@ from_zero_range o v most h =
     let high = most found.0 found.1 in
     subst IsRateInRange found.2 (omega (arith, ints), omega (arith, ints))
 
-either_sign : (minus : Bool) (a b : Option ℤ) (v : ℤ) → (a ≡ Some v → IsRateInRange v) → (b ≡ Some v → IsRateInRange v) → cond minus a b ≡ Some v → IsRateInRange v
+either_sign : (minus : Bool) (a b : Option ℤ) (v : ℤ) → (a ≡ Some v → IsRateInRange v) → (b ≡ Some v → IsRateInRange v) → cond minus a b ≡ Some v
+    → IsRateInRange v
 either_sign true a b v f g h = f h
 either_sign false a b v f g h = g h
 
@@ -202,7 +207,8 @@ expiry_range None d e f h = absurd cc
 expiry_range (Some r) None e f h = absurd cc
 expiry_range (Some r) (Some d) e f h = let is : event.Expiry (record { root = r; date = d }) ≡ e = cc in subst IsInRange is (f d refl)
 
-rate_line_range : (r : Option Root) (d : Option DayNo) (v : Option ℤ) (e : Event) → IsRanged IsDayInRange d → IsRanged IsRateInRange v → rate_event r d v ≡ Ok e → IsInRange e
+rate_line_range : (r : Option Root) (d : Option DayNo) (v : Option ℤ) (e : Event) → IsRanged IsDayInRange d → IsRanged IsRateInRange v
+    → rate_event r d v ≡ Ok e → IsInRange e
 rate_line_range None d v e f g h = absurd cc
 rate_line_range (Some r) None v e f g h = absurd cc
 rate_line_range (Some r) (Some d) None e f g h = absurd cc
@@ -212,7 +218,8 @@ series_line_range : (s : Option Symbol) (e : Event) → IsRanged IsSymbolInRange
 series_line_range None e f h = absurd cc
 series_line_range (Some s) e f h = let is : event.Series s ≡ e = cc in subst IsInRange is (f s refl)
 
-quote_range : (t : Option ℕ) (s : Option Symbol) (a b : Option ℕ) (e : Event) → IsRanged IsMinute t → IsRanged IsSymbolInRange s → IsRanged IsPrice a → IsRanged IsPrice b → quote_event t s a b ≡ Ok e → IsInRange e
+quote_range : (t : Option ℕ) (s : Option Symbol) (a b : Option ℕ) (e : Event) → IsRanged IsMinute t → IsRanged IsSymbolInRange s → IsRanged IsPrice a
+    → IsRanged IsPrice b → quote_event t s a b ≡ Ok e → IsInRange e
 quote_range None s a b e f g p q h = absurd cc
 quote_range (Some t) None a b e f g p q h = absurd cc
 quote_range (Some t) (Some s) None b e f g p q h = absurd cc
@@ -220,7 +227,8 @@ quote_range (Some t) (Some s) (Some a) None e f g p q h = absurd cc
 quote_range (Some t) (Some s) (Some a) (Some b) e f g p q h =
     let is : event.Quote t s a b ≡ e = cc in subst IsInRange is (f t refl, g s refl, p a refl, q b refl)
 
-trade_range : (t : Option ℕ) (s : Option Symbol) (a : Option ℕ) (e : Event) → IsRanged IsMinute t → IsRanged IsSymbolInRange s → IsRanged (λ n. (1 ≤ n) × IsPrice n) a → trade_event t s a ≡ Ok e → IsInRange e
+trade_range : (t : Option ℕ) (s : Option Symbol) (a : Option ℕ) (e : Event) → IsRanged IsMinute t → IsRanged IsSymbolInRange s
+    → IsRanged (λ n. (1 ≤ n) × IsPrice n) a → trade_event t s a ≡ Ok e → IsInRange e
 trade_range None s a e f g p h = absurd cc
 trade_range (Some t) None a e f g p h = absurd cc
 trade_range (Some t) (Some s) None e f g p h = absurd cc

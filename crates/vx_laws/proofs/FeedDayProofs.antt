@@ -11,7 +11,9 @@ use Rattle.vx_formula.specs.Forward.{forward_at}
 use Rattle.vx_formula.specs.Level.{strikes}
 use Rattle.vx_formula.specs.Examples.{at_cents, row_at, at_rate_zero}
 use Rattle.vx_formula.proofs.Lists.{In, in_from_contains}
-use Rattle.vx_laws.specs.FeedDays.{september_17, standard, call_at, put_at, SampleIsLawful, SampleShowsRows, crossed_beside, pair_of_1900, UncrossedStands, CrossedIsLawful, CrossedStandsNot, CrossedShowsNoCall, CrossedHasNoPair, CrossedPairIsBeside, CrossedForward, CrossedLevel, CrossedLacksMoney}
+use Rattle.vx_laws.specs.FeedDays.{september_17, standard, call_at, put_at, SampleIsLawful, SampleShowsRows, crossed_beside, pair_of_1900}
+use Rattle.vx_laws.specs.FeedDays.{UncrossedStands, CrossedIsLawful, CrossedStandsNot, CrossedShowsNoCall, CrossedHasNoPair, CrossedPairIsBeside}
+use Rattle.vx_laws.specs.FeedDays.{CrossedForward, CrossedLevel, CrossedLacksMoney}
 
 day_17 : IsDayInRange september_17
 day_17 = (le_z_yes tt, le_z_yes tt)
@@ -27,7 +29,52 @@ put_in_range strike low high = record { date = day_of_expiry; strike = (low, hig
 
 -- each event of the small feed may come after those before it
 pub sample_is_lawful : SampleIsLawful
-sample_is_lawful = (record { in_range = day_17; in_order = refl }, (record { in_range = day_of_expiry; in_order = refl }, (record { in_range = (day_of_expiry, (le_z_yes tt, le_z_yes tt)); in_order = refl }, (record { in_range = call_in_range 1900000 (omega arith) (omega arith); in_order = refl }, (record { in_range = put_in_range 1900000 (omega arith) (omega arith); in_order = refl }, (record { in_range = call_in_range 2000000 (omega arith) (omega arith); in_order = refl }, (record { in_range = put_in_range 2000000 (omega arith) (omega arith); in_order = refl }, (record { in_range = call_in_range 2100000 (omega arith) (omega arith); in_order = refl }, (record { in_range = put_in_range 2100000 (omega arith) (omega arith); in_order = refl }, (record { in_range = (omega arith, put_in_range 1900000 (omega arith) (omega arith), omega arith, omega arith); in_order = refl }, (record { in_range = (omega arith, call_in_range 2000000 (omega arith) (omega arith), omega arith, omega arith); in_order = refl }, (record { in_range = (omega arith, put_in_range 2000000 (omega arith) (omega arith), omega arith, omega arith); in_order = refl }, (record { in_range = (omega arith, call_in_range 2100000 (omega arith) (omega arith), omega arith, omega arith); in_order = refl }, (record { in_range = omega arith; in_order = refl }, (record { in_range = omega arith; in_order = refl }, tt)))))))))))))))
+sample_is_lawful = (
+  record { in_range = day_17; in_order = refl },
+  (
+    record { in_range = day_of_expiry; in_order = refl },
+    (
+      record { in_range = (day_of_expiry, (le_z_yes tt, le_z_yes tt)); in_order = refl },
+      (
+        record { in_range = call_in_range 1900000 (omega arith) (omega arith); in_order = refl },
+        (
+          record { in_range = put_in_range 1900000 (omega arith) (omega arith); in_order = refl },
+          (
+            record { in_range = call_in_range 2000000 (omega arith) (omega arith); in_order = refl },
+            (
+              record { in_range = put_in_range 2000000 (omega arith) (omega arith); in_order = refl },
+              (
+                record { in_range = call_in_range 2100000 (omega arith) (omega arith); in_order = refl },
+                (
+                  record { in_range = put_in_range 2100000 (omega arith) (omega arith); in_order = refl },
+                  (
+                    record { in_range = (omega arith, put_in_range 1900000 (omega arith) (omega arith), omega arith, omega arith); in_order = refl },
+                    (
+                      record { in_range = (omega arith, call_in_range 2000000 (omega arith) (omega arith), omega arith, omega arith); in_order = refl },
+                      (
+                        record { in_range = (omega arith, put_in_range 2000000 (omega arith) (omega arith), omega arith, omega arith); in_order = refl },
+                        (
+                          record { in_range = (omega arith, call_in_range 2100000 (omega arith) (omega arith), omega arith, omega arith); in_order = refl },
+                          (
+                            record { in_range = omega arith; in_order = refl },
+                            (
+                              record { in_range = omega arith; in_order = refl },
+                              tt,
+                            ),
+                          ),
+                        ),
+                      ),
+                    ),
+                  ),
+                ),
+              ),
+            ),
+          ),
+        ),
+      ),
+    ),
+  ),
+)
 
 -- and they show the rows of the worked figure, 20.66
 pub sample_shows_rows : SampleShowsRows
@@ -35,7 +82,43 @@ sample_shows_rows = refl
 
 -- each event of the feed with a crossed quote may come after those before it
 pub crossed_is_lawful : CrossedIsLawful
-crossed_is_lawful = (record { in_range = day_17; in_order = refl }, (record { in_range = day_of_expiry; in_order = refl }, (record { in_range = (day_of_expiry, (le_z_yes tt, le_z_yes tt)); in_order = refl }, (record { in_range = call_in_range 1900000 (omega arith) (omega arith); in_order = refl }, (record { in_range = put_in_range 1900000 (omega arith) (omega arith); in_order = refl }, (record { in_range = call_in_range 2000000 (omega arith) (omega arith); in_order = refl }, (record { in_range = put_in_range 2000000 (omega arith) (omega arith); in_order = refl }, (record { in_range = call_in_range 2100000 (omega arith) (omega arith); in_order = refl }, (record { in_range = put_in_range 2100000 (omega arith) (omega arith); in_order = refl }, (record { in_range = (omega arith, call_in_range 2000000 (omega arith) (omega arith), omega arith, omega arith); in_order = refl }, (record { in_range = (omega arith, put_in_range 2000000 (omega arith) (omega arith), omega arith, omega arith); in_order = refl }, (record { in_range = (omega arith, call_in_range 2000000 (omega arith) (omega arith), omega arith, omega arith); in_order = refl }, tt))))))))))))
+crossed_is_lawful = (
+  record { in_range = day_17; in_order = refl },
+  (
+    record { in_range = day_of_expiry; in_order = refl },
+    (
+      record { in_range = (day_of_expiry, (le_z_yes tt, le_z_yes tt)); in_order = refl },
+      (
+        record { in_range = call_in_range 1900000 (omega arith) (omega arith); in_order = refl },
+        (
+          record { in_range = put_in_range 1900000 (omega arith) (omega arith); in_order = refl },
+          (
+            record { in_range = call_in_range 2000000 (omega arith) (omega arith); in_order = refl },
+            (
+              record { in_range = put_in_range 2000000 (omega arith) (omega arith); in_order = refl },
+              (
+                record { in_range = call_in_range 2100000 (omega arith) (omega arith); in_order = refl },
+                (
+                  record { in_range = put_in_range 2100000 (omega arith) (omega arith); in_order = refl },
+                  (
+                    record { in_range = (omega arith, call_in_range 2000000 (omega arith) (omega arith), omega arith, omega arith); in_order = refl },
+                    (
+                      record { in_range = (omega arith, put_in_range 2000000 (omega arith) (omega arith), omega arith, omega arith); in_order = refl },
+                      (
+                        record { in_range = (omega arith, call_in_range 2000000 (omega arith) (omega arith), omega arith, omega arith); in_order = refl },
+                        tt,
+                      ),
+                    ),
+                  ),
+                ),
+              ),
+            ),
+          ),
+        ),
+      ),
+    ),
+  ),
+)
 
 -- before the crossed quote the call's quote stands
 pub uncrossed_stands : UncrossedStands
@@ -64,7 +147,8 @@ crossed_pair_is_beside = record {
 pub crossed_forward : CrossedForward
 crossed_forward = refl
 
-listed_of_three : (a b c k : ℕ) → In (a ∷ (b ∷ (c ∷ []))) k → (a ≡ k) ⊎ ((b ≡ k) ⊎ (c ≡ k))
+-- one of three listed strikes is the first, the second or the third
+pub listed_of_three : (a b c k : ℕ) → In (a ∷ (b ∷ (c ∷ []))) k → (a ≡ k) ⊎ ((b ≡ k) ⊎ (c ≡ k))
 listed_of_three a b c k (inl e) = inl e
 listed_of_three a b c k (inr (inl e)) = inr (inl e)
 listed_of_three a b c k (inr (inr (inl e))) = inr (inr e)

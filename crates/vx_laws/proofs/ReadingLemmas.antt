@@ -9,7 +9,8 @@ use Rattle.vx_feed.specs.declared.faults.FeedFault.{FeedFault}
 use Rattle.vx_feed.specs.declared.faults.FeedFault.TheVariants as fault
 use Rattle.vx_feed.specs.declared.limits.TheConstants.{LINE_LEN_MAX}
 use Rattle.vx_feed.specs.Form.{event_of_fields}
-use Rattle.vx_feed.specs.Feed.{event_unless, event_in_order, next_event, event_of_line, BadCause, too_long, no_eol, missing_end, BadLine, Reading, stopped_at, with_cause, reading_at_end, reading_after, reading_from, reading_of}
+use Rattle.vx_feed.specs.Feed.{event_unless, event_in_order, next_event, event_of_line, BadCause, too_long, no_eol, missing_end, BadLine, Reading}
+use Rattle.vx_feed.specs.Feed.{stopped_at, with_cause, reading_at_end, reading_after, reading_from, reading_of}
 use Rattle.vx_feed.specs.Order.{is_end, order_fault, IsLawfulNext, AreLawful}
 use Rattle.vx_laws.specs.LawfulPrefixes.{PrefixIsLawful, BadLineFollowsPrefix, LawfulFeedEnds}
 use Rattle.vx_laws.proofs.EventRanges.{past_fault, past_test, event_in_range}
@@ -61,7 +62,8 @@ stop_told before cause h =
       ends = λ e. absurd cc;
     }
 
-end_told : (before : List Event) (c : Bool) → list_any is_end before ≡ c → AreLawful before → IsTold (cond c (record { events = before; bad = None }) (stopped_at before missing_end))
+end_told : (before : List Event) (c : Bool) → list_any is_end before ≡ c → AreLawful before
+    → IsTold (cond c (record { events = before; bad = None }) (stopped_at before missing_end))
 end_told before true e h = record { lawful = h; follows = λ bad none. absurd cc; ends = λ none. e }
 end_told before false e h = stop_told before missing_end h
 

@@ -1,5 +1,5 @@
 -- The text of the first sample feed, read line by line.
-use Rattle.std.proofs.Common.{◌≡◌, refl, ap, ◌∙◌, ℕ, true, false, cond, ℤ, pos, List, [], ◌∷◌, ◌++◌, take, drop, length, None, Result, Ok, Err, arith}
+use Rattle.std.proofs.Common.{◌≡◌, refl, ap, ◌∙◌, ℕ, ◌+◌, true, false, cond, ℤ, pos, List, [], ◌∷◌, ◌++◌, take, drop, length, None, Result, Ok, Err, arith}
 use Rattle.std.specs.Prelude.{codes, ◌==◌}
 use Rattle.std.specs.List.{list_all}
 use Rattle.std.proofs.lemmas.Bool.{cond-true, cond-false}
@@ -122,35 +122,40 @@ is_read before line e filled plain says order =
     ∙ ap (event_in_order before) says
     ∙ ap (λ o. event_unless o e) order)
 
-step : (before : List Event) (line : List ℕ) (rest : List (List ℕ)) (e : Event) → with_cause (event_of_line before line) ≡ Ok e
-    → reading_from before (line ∷ rest) at_end ≡ reading_from (before ++ e ∷ []) rest at_end
-step before line rest e h = ap (reading_after (λ events. reading_from events rest at_end) before) h
+-- so the reading of the feed goes on behind its line of this number
+step : (n : ℕ) (line : List ℕ) (e : Event) → (length line == 0) ≡ false → list_all is_plain line ≡ true → Says line e
+    → order_fault (take n sample_feed) e ≡ None
+    → reading_from (take n sample_feed) (line ∷ drop (n + 1) sample_lines) at_end
+    ≡ reading_from (take n sample_feed ++ e ∷ []) (drop (n + 1) sample_lines) at_end
+step n line e filled plain says order =
+    ap (reading_after (λ events. reading_from events (drop (n + 1) sample_lines) at_end) (take n sample_feed))
+    (is_read (take n sample_feed) line e filled plain says order)
 
 -- the text's lines, and nothing behind the last
-lines_are : lines_of LINE_LEN_MAX (text_of sample_lines) ≡ record { lines = sample_lines; ending = at_end }
-lines_are = refl
+sample_lines_are_cut : lines_of LINE_LEN_MAX (text_of sample_lines) ≡ record { lines = sample_lines; ending = at_end }
+sample_lines_are_cut = refl
 
 read_lines : reading_from [] sample_lines at_end ≡ record { events = sample_feed; bad = None }
 read_lines =
-    step (take 0 sample_feed) (codes "H,1,2014-09-17") (drop 1 sample_lines) (event.Header september_17) (is_read (take 0 sample_feed) (codes "H,1,2014-09-17") (event.Header september_17) refl refl says_header refl)
-    ∙ step (take 1 sample_feed) (codes "E,SPX,2014-10-17") (drop 2 sample_lines) (event.Expiry standard) (is_read (take 1 sample_feed) (codes "E,SPX,2014-10-17") (event.Expiry standard) refl refl says_expiry refl)
-    ∙ step (take 2 sample_feed) (codes "R,SPX,2014-10-17,0") (drop 3 sample_lines) (event.Rate standard (pos 0)) (is_read (take 2 sample_feed) (codes "R,SPX,2014-10-17,0") (event.Rate standard (pos 0)) refl refl says_rate refl)
-    ∙ step (take 3 sample_feed) (codes "S,SPX   141017C01900000") (drop 4 sample_lines) (event.Series (call_at 1900000)) (is_read (take 3 sample_feed) (codes "S,SPX   141017C01900000") (event.Series (call_at 1900000)) refl refl says_call_1900 refl)
-    ∙ step (take 4 sample_feed) (codes "S,SPX   141017P01900000") (drop 5 sample_lines) (event.Series (put_at 1900000)) (is_read (take 4 sample_feed) (codes "S,SPX   141017P01900000") (event.Series (put_at 1900000)) refl refl says_put_1900 refl)
-    ∙ step (take 5 sample_feed) (codes "S,SPX   141017C02000000") (drop 6 sample_lines) (event.Series (call_at 2000000)) (is_read (take 5 sample_feed) (codes "S,SPX   141017C02000000") (event.Series (call_at 2000000)) refl refl says_call_2000 refl)
-    ∙ step (take 6 sample_feed) (codes "S,SPX   141017P02000000") (drop 7 sample_lines) (event.Series (put_at 2000000)) (is_read (take 6 sample_feed) (codes "S,SPX   141017P02000000") (event.Series (put_at 2000000)) refl refl says_put_2000 refl)
-    ∙ step (take 7 sample_feed) (codes "S,SPX   141017C02100000") (drop 8 sample_lines) (event.Series (call_at 2100000)) (is_read (take 7 sample_feed) (codes "S,SPX   141017C02100000") (event.Series (call_at 2100000)) refl refl says_call_2100 refl)
-    ∙ step (take 8 sample_feed) (codes "S,SPX   141017P02100000") (drop 9 sample_lines) (event.Series (put_at 2100000)) (is_read (take 8 sample_feed) (codes "S,SPX   141017P02100000") (event.Series (put_at 2100000)) refl refl says_put_2100 refl)
-    ∙ step (take 9 sample_feed) (codes "Q,08:30,SPX   141017P01900000,10.00,10.00") (drop 10 sample_lines) (event.Quote 510 (put_at 1900000) 1000 1000) (is_read (take 9 sample_feed) (codes "Q,08:30,SPX   141017P01900000,10.00,10.00") (event.Quote 510 (put_at 1900000) 1000 1000) refl refl says_quote_put_1900 refl)
-    ∙ step (take 10 sample_feed) (codes "Q,08:30,SPX   141017C02000000,50.00,50.00") (drop 11 sample_lines) (event.Quote 510 (call_at 2000000) 5000 5000) (is_read (take 10 sample_feed) (codes "Q,08:30,SPX   141017C02000000,50.00,50.00") (event.Quote 510 (call_at 2000000) 5000 5000) refl refl says_quote_call_2000 refl)
-    ∙ step (take 11 sample_feed) (codes "Q,08:30,SPX   141017P02000000,50.00,50.00") (drop 12 sample_lines) (event.Quote 510 (put_at 2000000) 5000 5000) (is_read (take 11 sample_feed) (codes "Q,08:30,SPX   141017P02000000,50.00,50.00") (event.Quote 510 (put_at 2000000) 5000 5000) refl refl says_quote_put_2000 refl)
-    ∙ step (take 12 sample_feed) (codes "Q,08:30,SPX   141017C02100000,10.00,10.00") (drop 13 sample_lines) (event.Quote 510 (call_at 2100000) 1000 1000) (is_read (take 12 sample_feed) (codes "Q,08:30,SPX   141017C02100000,10.00,10.00") (event.Quote 510 (call_at 2100000) 1000 1000) refl refl says_quote_call_2100 refl)
-    ∙ step (take 13 sample_feed) (codes "V,08:30") (drop 14 sample_lines) (event.Tick 510) (is_read (take 13 sample_feed) (codes "V,08:30") (event.Tick 510) refl refl says_tick refl)
-    ∙ step (take 14 sample_feed) (codes "END,13") (drop 15 sample_lines) (event.End 13) (is_read (take 14 sample_feed) (codes "END,13") (event.End 13) refl refl says_end refl)
+    step 0 (codes "H,1,2014-09-17") (event.Header september_17) refl refl says_header refl
+    ∙ step 1 (codes "E,SPX,2014-10-17") (event.Expiry standard) refl refl says_expiry refl
+    ∙ step 2 (codes "R,SPX,2014-10-17,0") (event.Rate standard (pos 0)) refl refl says_rate refl
+    ∙ step 3 (codes "S,SPX   141017C01900000") (event.Series (call_at 1900000)) refl refl says_call_1900 refl
+    ∙ step 4 (codes "S,SPX   141017P01900000") (event.Series (put_at 1900000)) refl refl says_put_1900 refl
+    ∙ step 5 (codes "S,SPX   141017C02000000") (event.Series (call_at 2000000)) refl refl says_call_2000 refl
+    ∙ step 6 (codes "S,SPX   141017P02000000") (event.Series (put_at 2000000)) refl refl says_put_2000 refl
+    ∙ step 7 (codes "S,SPX   141017C02100000") (event.Series (call_at 2100000)) refl refl says_call_2100 refl
+    ∙ step 8 (codes "S,SPX   141017P02100000") (event.Series (put_at 2100000)) refl refl says_put_2100 refl
+    ∙ step 9 (codes "Q,08:30,SPX   141017P01900000,10.00,10.00") (event.Quote 510 (put_at 1900000) 1000 1000) refl refl says_quote_put_1900 refl
+    ∙ step 10 (codes "Q,08:30,SPX   141017C02000000,50.00,50.00") (event.Quote 510 (call_at 2000000) 5000 5000) refl refl says_quote_call_2000 refl
+    ∙ step 11 (codes "Q,08:30,SPX   141017P02000000,50.00,50.00") (event.Quote 510 (put_at 2000000) 5000 5000) refl refl says_quote_put_2000 refl
+    ∙ step 12 (codes "Q,08:30,SPX   141017C02100000,10.00,10.00") (event.Quote 510 (call_at 2100000) 1000 1000) refl refl says_quote_call_2100 refl
+    ∙ step 13 (codes "V,08:30") (event.Tick 510) refl refl says_tick refl
+    ∙ step 14 (codes "END,13") (event.End 13) refl refl says_end refl
 
 -- each line of the small feed's text says its event, and no line is bad
 pub sample_text_is_read : SampleTextIsRead
-sample_text_is_read = ap (reading_on []) lines_are ∙ read_lines
+sample_text_is_read = ap (reading_on []) sample_lines_are_cut ∙ read_lines
 
 -- so the text is a lawful feed
 pub sample_text_is_lawful : SampleTextIsLawful

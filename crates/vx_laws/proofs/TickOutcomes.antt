@@ -2,22 +2,25 @@
 use Rattle.std.proofs.Common.{◌≡◌, refl, sym, ◌∙◌, subst, ℕ, ◌+◌, ◌<◌, ◌≤◌, ◌⊎◌, ℤ, Option, Some, None, inl, inr, arith}
 use Rattle.std.proofs.lemmas.Bool.{cases_lt}
 use Rattle.vx_formula.specs.Term.{TermFacts}
-use Rattle.vx_formula.specs.Refusal.{TermReason, TermRefuses, term_place, FirstTermRefusal, TickFacts, SomeTermRefuses, TickReason, no_near_term, no_next_term, of_near, of_next, negative_variance, TickRefuses, tick_place, near_undecided_place, next_undecided_place}
+use Rattle.vx_formula.specs.Refusal.{TermReason, TermRefuses, term_place, FirstTermRefusal, TickFacts, SomeTermRefuses, TickReason, no_near_term}
+use Rattle.vx_formula.specs.Refusal.{no_next_term, of_near, of_next, negative_variance, TickRefuses, tick_place, near_undecided_place}
+use Rattle.vx_formula.specs.Refusal.{next_undecided_place}
 use Rattle.vx_claims.specs.declared.limits.TheConstants.{SCALE}
 use Rattle.vx_claims.specs.Answers.{LeavesForward}
 use Rattle.vx_formula.specs.TermOutcomes.{IsUndecided, IsSound}
-use Rattle.vx_laws.specs.TickOutcomes.{AreEndsOf, IsTickRefused, AreBothSound, TickIsAnswered, RefusedTickIsNotSound, UndecidedNearComesFirst, UndecidedNextComesFirst}
+use Rattle.vx_laws.specs.TickOutcomes.{AreEndsOf, IsTickRefused, AreBothSound, TickIsAnswered, RefusedTickIsNotSound, UndecidedNearComesFirst}
+use Rattle.vx_laws.specs.TickOutcomes.{UndecidedNextComesFirst}
 use Rattle.vx_formula.proofs.TermOutcomes.{place_in_range, place_is_not_3, term_is_answered}
 
-same_some : {A : Type 0} (o : Option A) (x y : A) → o ≡ Some x → o ≡ Some y → x ≡ y
-same_some o x y h l = let both : Some x ≡ Some y = sym h ∙ l in cc
+content_is_one : {A : Type 0} (o : Option A) (x y : A) → o ≡ Some x → o ≡ Some y → x ≡ y
+content_is_one o x y h l = let both : Some x ≡ Some y = sym h ∙ l in cc
 
 not_none : {A : Type 0} (o : Option A) (x : A) → o ≡ Some x → o ≡ None → ⊥
 not_none o x h l = let both : Some x ≡ None = sym h ∙ l in cc
 
 -- a refusal of the chosen term is one of its facts
 refuses_of : (chosen : Option TermFacts) (n : TermFacts) (r : TermReason) → chosen ≡ Some n → SomeTermRefuses SCALE chosen r → TermRefuses SCALE n r
-refuses_of chosen n r is h = subst (λ (f : TermFacts). TermRefuses SCALE f r) (same_some chosen h.facts n h.is_chosen is) h.refuses
+refuses_of chosen n r is h = subst (λ (f : TermFacts). TermRefuses SCALE f r) (content_is_one chosen h.facts n h.is_chosen is) h.refuses
 
 -- no refusal before a place holds
 abbrev NoneBefore : TickFacts → ℕ → Type 0
@@ -87,7 +90,8 @@ module _ (facts : TickFacts) (n m : TermFacts) (near_is : facts.near ≡ Some n)
     record { of = n; is_chosen = near_is; term = h.term; is_of_facts = h.is_of_facts; undecided = h.undecided; none_earlier = before_near 3 (omega arith) h.none_earlier },
   )
 
-  undecided_next : (lo hi : ℤ) → ((r : TermReason) → ¬ TermRefuses SCALE n r) → IsUndecided SCALE m lo hi → (strike : ℕ) × LeavesForward facts facts.next next_undecided_place strike lo hi
+  undecided_next : (lo hi : ℤ) → ((r : TermReason) → ¬ TermRefuses SCALE n r) → IsUndecided SCALE m lo hi
+      → (strike : ℕ) × LeavesForward facts facts.next next_undecided_place strike lo hi
   undecided_next lo hi near h = (
     h.strike,
     record { of = m; is_chosen = next_is; term = h.term; is_of_facts = h.is_of_facts; undecided = h.undecided; none_earlier = before_next 3 (omega arith) near h.none_earlier },
@@ -110,7 +114,8 @@ Answer facts near_lo near_hi next_lo next_hi =
     ⊎ (((strike : ℕ) × LeavesForward facts facts.next next_undecided_place strike next_lo next_hi)
     ⊎ AreBothSound facts))
 
-by_terms : (facts : TickFacts) (a b c d : ℤ) (near next : Option TermFacts) → facts.near ≡ near → facts.next ≡ next → AreEndsOf near a b → AreEndsOf next c d → Answer facts a b c d
+by_terms : (facts : TickFacts) (a b c d : ℤ) (near next : Option TermFacts) → facts.near ≡ near → facts.next ≡ next → AreEndsOf near a b
+    → AreEndsOf next c d → Answer facts a b c d
 by_terms facts a b c d None next near_is next_is h l =
     inl (record { reason = no_near_term; is_first = record { holds = near_is; none_earlier = before_near_term facts }; of_terms = omega arith })
 by_terms facts a b c d (Some n) None near_is next_is h l =

@@ -9,6 +9,7 @@ level_line =
     codes "{\"date\":\"2014-10-17\",\"k0\":2000000,\"kind\":\"k0\",\"line\":14,\"pair\":[2000000,0],"
     ++ codes "\"root\":\"SPX\",\"time\":\"08:30\",\"v\":1}"
 
+-- the line of the file is read as the worked certificate of kind `k0`
 abbrev pub LevelLineIsRead : Type 0
 LevelLineIsRead = ReadsAs level_line (Ok (level_certificate 14 (pos 0) 2000000))
 
@@ -27,5 +28,6 @@ single_line =
     ++ codes "\"4043908332712892\"]},\"time\":\"08:30\",\"v\":1,\"x\":[\"49200884714673446\","
     ++ codes "\"49200884714673520\"]}"
 
+-- the line of the file is read as the worked certificate of kind `single`
 abbrev pub SingleLineIsRead : Type 0
 SingleLineIsRead = ReadsAs single_line (Ok (first_version 1152921504606846976 319368837841232 20657919 20657920))

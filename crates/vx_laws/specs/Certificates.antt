@@ -6,6 +6,7 @@ use Rattle.vx_cert.specs.declared.certificate.CertTerm.{CertTerm}
 use Rattle.vx_cert.specs.declared.certificate.CertBody.TheVariants.{K0, Single}
 use Rattle.vx_cert.specs.declared.certificate.Certificate.{Certificate}
 use Rattle.vx_cert.specs.declared.rows.CertRow.{CertRow}
+use Rattle.vx_formula.specs.declared.limits.TheConstants.{THIRTY_DAYS}
 use Rattle.vx_claims.specs.declared.acceptance.Test.{Test}
 use Rattle.vx_claims.specs.declared.acceptance.Test.TheVariants.{Place, TaylorTerms, ClosestPair, Level, Contributions, IndexEnds}
 use Rattle.vx_claims.specs.Accepts.{Meets, Accepts, FirstFailing}
@@ -44,6 +45,7 @@ LowLevelFails = FailsFirst (level_certificate 14 (pos 0) 1900000) Level
 
 -- ---- kind `single`
 
+-- the two ends of a number, as a certificate states them
 abbrev pub stated_ends : ℕ → ℕ → Ends
 stated_ends low high = record { lo = pos low; hi = pos high }
 
@@ -59,7 +61,7 @@ taylor_from first = first ∷ replicate 13 0
 abbrev pub term_with : List ℕ → ℕ → ℕ → List CertRow → Ends → Ends → CertTerm
 term_with taylor one forward parts total variance = record {
   expiry = standard;
-  minutes = 43200;
+  minutes = THIRTY_DAYS;
   rate = pos 0;
   t_lo = taylor;
   t_hi = taylor;
@@ -96,6 +98,7 @@ first_term first upper =
     term_with (taylor_from first) 1152921504606846976 2305843009213693952000000 (first_rows upper)
     (stated_ends 2021954166356443 2021954166356446) (stated_ends 4043908332712886 4043908332712892)
 
+-- the ends of the square
 abbrev pub first_square : Ends
 first_square = stated_ends 49200884714673446 49200884714673520
 
@@ -121,19 +124,23 @@ WideEndsFail = FailsFirst (first_version 1152921504606846976 319368837841232 206
 
 -- ---- version 2, in units of 2^-62
 
+-- its rows
 abbrev pub second_rows : List CertRow
 second_rows =
     priced_row 1900000 4000 1277475351364927 1277475351364928 ∷ priced_row 2000000 20000 5764607523034234 5764607523034235
     ∷ priced_row 2100000 4000 1045733791026618 1045733791026619 ∷ []
 
+-- its term
 abbrev pub second_term : CertTerm
 second_term =
     term_with (taylor_from 4611686018427387904) 4611686018427387904 9223372036854775808000000 second_rows
     (stated_ends 8087816665425779 8087816665425782) (stated_ends 16175633330851558 16175633330851564)
 
+-- the ends of its square
 abbrev pub second_square : Ends
 second_square = stated_ends 196803538858693955 196803538858694029
 
+-- the same figure at the finer scale is accepted too
 abbrev pub SecondVersionIsAccepted : Type 0
 SecondVersionIsAccepted = Accepts sample_feed (single_certificate 2 second_term second_square 20657919 20657920)
 

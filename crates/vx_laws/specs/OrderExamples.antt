@@ -14,10 +14,11 @@ pub record BothHold (before : List Event) (e : Event) (one other : List Event �
   pub other_holds : other before e ≡ true
   pub answered : order_fault before e ≡ Some f
 
--- a day with a tick at 8:30 that has ended, and one whose opening was taken then
+-- a day with a tick at 8:30 that has ended
 abbrev pub ended : List Event
 ended = event.Header september_17 ∷ event.Tick 510 ∷ event.End 1 ∷ []
 
+-- a day whose opening was taken at 8:30
 abbrev pub opened : List Event
 opened = event.Header september_17 ∷ event.Opening 510 ∷ []
 

@@ -28,5 +28,6 @@ sample_lines =
 abbrev pub SampleTextIsRead : Type 0
 SampleTextIsRead = reading_of (text_of sample_lines) ≡ record { events = sample_feed; bad = None }
 
+-- so the text is a lawful feed
 abbrev pub SampleTextIsLawful : Type 0
 SampleTextIsLawful = IsLawfulFeed (text_of sample_lines)

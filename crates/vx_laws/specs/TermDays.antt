@@ -42,34 +42,38 @@ weekly_24 = record { root = Spxw; date = october_24 }
 abbrev pub weekly_31 : Expiry
 weekly_31 = record { root = Spxw; date = october_31 }
 
+-- the three in the order in which they are declared
 abbrev pub three_expiries : List Expiry
 three_expiries = standard_17 ∷ (weekly_24 ∷ (weekly_31 ∷ []))
 
--- near, and next, for the index of 30 days within windows of 7
+-- near, for the index of 30 days within windows of 7
 abbrev pub IsNearOn : DayNo → Expiry → Type 0
 IsNearOn today e = IsNearTerm today INDEX_DAYS INDEX_WINDOW three_expiries e
 
+-- next, for the index of 30 days within windows of 7
 abbrev pub IsNextOn : DayNo → Expiry → Type 0
 IsNextOn today e = IsNextTerm today INDEX_DAYS INDEX_WINDOW three_expiries e
 
--- on September 23 near is the standard expiry, 24 days ahead, and next the first weekly one, 31 days ahead
+-- on September 23 near is the standard expiry, 24 days ahead
 abbrev pub NearOfSeptember23 : Type 0
 NearOfSeptember23 = IsNearOn september_23 standard_17 × (days_until september_23 october_17 ≡ pos 24)
 
+-- and next the first weekly one, 31 days ahead
 abbrev pub NextOfSeptember23 : Type 0
 NextOfSeptember23 = IsNextOn september_23 weekly_24 × (days_until september_23 october_24 ≡ pos 31)
 
--- a day later the standard expiry has left the window: near is the first weekly one, 30 days ahead, and next the second, 37
--- days ahead
+-- a day later the standard expiry has left the window: near is the first weekly one, 30 days ahead
 abbrev pub NearOfSeptember24 : Type 0
 NearOfSeptember24 = IsNearOn september_24 weekly_24 × (days_until september_24 october_24 ≡ pos 30)
 
+-- and next the second, 37 days ahead
 abbrev pub NextOfSeptember24 : Type 0
 NextOfSeptember24 = IsNextOn september_24 weekly_31 × (days_until september_24 october_31 ≡ pos 37)
 
--- where no expiry is declared there is no near term on any day, and no next one
+-- where no expiry is declared there is no near term on any day
 abbrev pub NoNearOfNone : Type 0
 NoNearOfNone = (today : DayNo) (days window : ℕ) (e : Expiry) → IsNearTerm today days window [] e → ⊥
 
+-- nor a next one
 abbrev pub NoNextOfNone : Type 0
 NoNextOfNone = (today : DayNo) (days window : ℕ) (e : Expiry) → IsNextTerm today days window [] e → ⊥

@@ -2,7 +2,8 @@
 use Rattle.std.specs.Prelude.{ℕ, ◌<◌, ◌⊎◌, ℤ, Option, IfSome}
 use Rattle.vx_formula.specs.Term.{TermFacts, Term}
 use Rattle.vx_formula.specs.Level.{IsLevel}
-use Rattle.vx_formula.specs.Refusal.{TickFacts, IsTickBasis, TickReason, TickRefuses, tick_place, FirstRefusal, near_undecided_place, next_undecided_place, cents_undecided_place}
+use Rattle.vx_formula.specs.Refusal.{TickFacts, IsTickBasis, TickReason, TickRefuses, tick_place, FirstRefusal}
+use Rattle.vx_formula.specs.Refusal.{near_undecided_place, next_undecided_place, cents_undecided_place}
 use Rattle.vx_claims.specs.declared.limits.TheConstants.{SCALE}
 use Rattle.vx_claims.specs.Answers.{LeavesForward}
 use Rattle.vx_formula.specs.TermOutcomes.{AreFactsInRange, AreForwardEnds}
@@ -46,6 +47,7 @@ abbrev pub UndecidedNearComesFirst : Type 0
 UndecidedNearComesFirst = (facts : TickFacts) (strike : ℕ) (lo hi : ℤ) (reason : TickReason) →
     LeavesForward facts facts.near near_undecided_place strike lo hi → FirstRefusal SCALE facts reason → near_undecided_place < tick_place reason
 
+-- the same of the next term's forward
 abbrev pub UndecidedNextComesFirst : Type 0
 UndecidedNextComesFirst = (facts : TickFacts) (strike : ℕ) (lo hi : ℤ) (reason : TickReason) →
     LeavesForward facts facts.next next_undecided_place strike lo hi → FirstRefusal SCALE facts reason → next_undecided_place < tick_place reason

@@ -1,8 +1,11 @@
 //! Worked days. Each function does nothing: its clauses are the example.
 
-ghost use Rattle.vx_laws.specs.TermDays.{DaysAreNumbered, NearOfSeptember23, NextOfSeptember23, NearOfSeptember24, NextOfSeptember24, NoNearOfNone, NoNextOfNone};
+ghost use Rattle.vx_laws.specs.TermDays.{DaysAreNumbered, NearOfSeptember23, NextOfSeptember23, NearOfSeptember24};
+ghost use Rattle.vx_laws.specs.TermDays.{NextOfSeptember24, NoNearOfNone, NoNextOfNone};
 ghost use Rattle.vx_laws.specs.SampleText.{SampleTextIsRead, SampleTextIsLawful};
-ghost use Rattle.vx_laws.specs.FeedDays.{SampleIsLawful, SampleShowsRows, UncrossedStands, CrossedIsLawful, CrossedStandsNot, CrossedShowsNoCall, CrossedHasNoPair, CrossedPairIsBeside, CrossedForward, CrossedLevel, CrossedLacksMoney};
+ghost use Rattle.vx_laws.specs.FeedDays.{SampleIsLawful, SampleShowsRows, UncrossedStands, CrossedIsLawful};
+ghost use Rattle.vx_laws.specs.FeedDays.{CrossedStandsNot, CrossedShowsNoCall, CrossedHasNoPair, CrossedPairIsBeside};
+ghost use Rattle.vx_laws.specs.FeedDays.{CrossedForward, CrossedLevel, CrossedLacksMoney};
 
 /// The two terms of the index on 2014-09-23 and on the day after.
 pub fn two_terms()
