@@ -35,7 +35,8 @@ impl<F: Drop> Device<F> {
     /// Keeps a file that was opened, or counts the failure.
     fn keep(&mut self, opened: io::Result<F>) -> Result<(), Failed>
         requires { is_some self.old.file ≡ false }
-        ensures { (slot : Slot) (name : List ℕ) → Opens slot name None (told_device self.old) (told_device self.new) result }
+        ensures { (slot : Slot) (name : List ℕ)
+            → Opens slot name None (told_device self.old) (told_device self.new) result }
     {
         match opened {
             Ok(file) => {
