@@ -55,5 +55,5 @@ all_in_picture times scale ticks in_times in_scale =
     λ k d h. record { first = first k d h; last = last k d h; within = in_scale k d h }
 
 -- what holds of all items holds of the one at a place
-pub at_place : {X : Type 0} (P : X → Type 0) (xs : List X) (k : ℕ) (x : X) → All P xs → slice_get xs k ≡ Some x → P x
-at_place {X} P xs k x all e = subst (λ (y : X). P y) (get_or_from_slice_get xs k x x e) (all k x (slice_get_within xs k x e))
+pub holds_at_place : {X : Type 0} (P : X → Type 0) (xs : List X) (k : ℕ) (x : X) → All P xs → slice_get xs k ≡ Some x → P x
+holds_at_place {X} P xs k x all e = subst (λ (y : X). P y) (get_or_from_slice_get xs k x x e) (all k x (slice_get_within xs k x e))

@@ -9,7 +9,7 @@ use Rattle.vx_feed.specs.Listed.{declared_expiry, declared_expiries}
 use Rattle.vx_feed.specs.Ranges.{IsInRange}
 use Rattle.vx_formula.proofs.Lists.{In, in_from_contains}
 use Rattle.vx_cert.specs.Ranges.{IsExpiryInRange}
-use Rattle.vx_facts.proofs.InRange.{lawful_in_range}
+use Rattle.vx_claims.proofs.InRange.{lawful_in_range}
 use Rattle.vx_accepted.specs.Facts.{DeclaredExpiriesAreInRange}
 
 -- what an event in range declares is in range

@@ -1,5 +1,5 @@
 -- A figure's square and its printed ends pass the tests of a certificate's.
-use Rattle.std.proofs.Common.{◌≡◌, sym, ap, subst, refl, ℕ, zero, suc, ◌+◌, ◌-◌, ◌*◌, ◌%◌, ◌^◌, ◌<◌, ◌≤◌, inr, ℤ, pos, negsuc, ◌+ℤ◌, ◌-ℤ◌, ◌*ℤ◌, ◌≤ℤ◌, ◌<ℤ◌, arith}
+use Rattle.std.proofs.Common.{◌≡◌, sym, subst, refl, ℕ, zero, suc, ◌+◌, ◌-◌, ◌*◌, ◌%◌, ◌^◌, ◌<◌, ◌≤◌, inr, ℤ, pos, negsuc, ◌+ℤ◌, ◌-ℤ◌, ◌*ℤ◌, ◌≤ℤ◌, ◌<ℤ◌, arith}
 use Rattle.std.proofs.lemmas.Int.{ints, by_lt_z}
 use Rattle.std.proofs.lemmas.Nat.{div-add-mod'}
 use Rattle.std.proofs.Math.Nat.{mod-lt}
@@ -15,6 +15,7 @@ use Rattle.vx_bounds.proofs.RootsAreOne.{roots_are_ordered}
 use Rattle.vx_formula.specs.declared.limits.TheConstants.{YEAR_MINUTES, THIRTY_DAYS, INDEX_WIDTH_MAX}
 use Rattle.vx_claims.specs.FigureTests.{weighted, span, EnclosesSquare, EnclosesSingleSquare, EnclosesIndex}
 use Rattle.vx_claims.specs.declared.limits.TheConstants.{INDEX_END_MAX}
+use Rattle.vx_soundness.proofs.FigureLemmas.{span_is}
 use Rattle.vx_term.specs.Index.{interpolated_ends, single_ends}
 use Rattle.vx_term.specs.Ranges.{IsSquareInRange}
 use Rattle.vx_certify.specs.Certified.{AreIndexEnds, certified_ends, certified_figure}
@@ -38,9 +39,6 @@ year_low w1 w2 a b y z l1 h1 l2 h2 = let m = multiple_low w1 a y l1 h1 in let n 
 year_high : (w1 w2 : Ends) (a b y z : ℤ) → w1.lo ≤ℤ y → y ≤ℤ w1.hi → w2.lo ≤ℤ z → z ≤ℤ w2.hi
     → (pos YEAR_MINUTES *ℤ (a *ℤ y +ℤ b *ℤ z)) ≤ℤ (pos YEAR_MINUTES *ℤ ((scale_ends w1 a).hi +ℤ (scale_ends w2 b).hi))
 year_high w1 w2 a b y z l1 h1 l2 h2 = let m = multiple_high w1 a y l1 h1 in let n = multiple_high w2 b z l2 h2 in omega (arith, ints, m, n)
-
-span_is : (target n1 n2 : ℕ) → n1 < n2 → span target n1 n2 ≡ pos (target * (n2 - n1))
-span_is target n1 n2 rising = let apart : pos n2 -ℤ pos n1 ≡ pos (n2 - n1) = omega (arith, ints, rising) in ap (λ z. pos target *ℤ z) apart
 
 -- the square of the index from two variances
 pub square_is_enclosed : (P target n1 n2 : ℕ) (w1 w2 : Ends) → 1 ≤ target → n1 < n2 → w1.lo ≤ℤ w1.hi → w2.lo ≤ℤ w2.hi

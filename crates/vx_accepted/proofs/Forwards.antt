@@ -11,7 +11,7 @@ use Rattle.vx_formula.specs.Pair.{Pair}
 use Rattle.vx_forward.specs.Forward.{forward_interval, IsForwardInRange}
 use Rattle.vx_forward.specs.declared.level.K0Answer.TheVariants as level
 use Rattle.vx_forward.proofs.AnswersAreOne.{one_above}
-use Rattle.vx_forward.proofs.Places.{row_listed}
+use Rattle.vx_forward.proofs.Places.{row_at_is_listed}
 use Rattle.vx_forward.proofs.Printed.{level_lies_below}
 use Rattle.vx_strip.specs.Entries.{strike_at}
 use Rattle.vx_formula.proofs.Walks.{strike_at_is}
@@ -80,7 +80,7 @@ level_is_of_ends P rows f place k (row, is, some) at =
     let here = scaled_strike P row.strike in
     subst (λ (j : ℕ). IsLevelOfEnds P rows (certified_ends f) j × HasStrikeAbove rows j) k_is (
       record {
-        is_listed = row_listed rows place row is_at;
+        is_listed = row_at_is_listed rows place row is_at;
         at_most = omega (arith, ints, here, lies.0);
         others_above = λ other listed above. let past = lies.1 other listed above in let there = scaled_strike P other in omega (arith, ints, there, past);
       },

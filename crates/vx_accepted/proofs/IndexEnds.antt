@@ -7,7 +7,7 @@ use Rattle.vx_num.proofs.Whole.{mul_mono, mul_mono_left, mul_cancel, mul_assoc, 
 use Rattle.vx_interval.specs.Ends.{Ends, unit}
 use Rattle.vx_interval.specs.Membership.{IsMember}
 use Rattle.vx_interval.proofs.EndsLemmas.{unit_positive}
-use Rattle.vx_interval.proofs.Enclosures.{at_least, at_most}
+use Rattle.vx_interval.proofs.Enclosures.{member_at_least, member_at_most}
 use Rattle.vx_bounds.specs.Cents.{IsStraddled}
 use Rattle.vx_formula.specs.Between.{BetweenAt}
 use Rattle.vx_formula.specs.Index.{IsNegative}
@@ -31,7 +31,7 @@ module _ (P : ℕ) (square : Ends) (lo hi : ℤ) (ends : AreIndexEnds P square l
       let s : ℤ = signed_square lo in
       let h = unit_positive P in
       let scaled = mul_mono (s *ℤ u) (pos (10 ^ 16) *ℤ square.lo) n bottom (ends.low).at_most in
-      let inside = mul_mono_left (square.lo *ℤ n) (x.top *ℤ u) (pos (10 ^ 16)) (omega (arith, ints)) (at_least P square x member) in
+      let inside = mul_mono_left (square.lo *ℤ n) (x.top *ℤ u) (pos (10 ^ 16)) (omega (arith, ints)) (member_at_least P square x member) in
       mul_cancel (s *ℤ n) (pos (10 ^ 16) *ℤ x.top) u h
       (omega (arith, ints, scaled, inside, mul_right_comm s u n, mul_assoc (pos (10 ^ 16)) square.lo n, mul_assoc (pos (10 ^ 16)) x.top u))
 
@@ -42,7 +42,7 @@ module _ (P : ℕ) (square : Ends) (lo hi : ℤ) (ends : AreIndexEnds P square l
       let s : ℤ = signed_square hi in
       let h = unit_positive P in
       let scaled = mul_mono (pos (10 ^ 16) *ℤ square.hi) (s *ℤ u) n bottom (ends.high).at_least in
-      let inside = mul_mono_left (x.top *ℤ u) (square.hi *ℤ n) (pos (10 ^ 16)) (omega (arith, ints)) (at_most P square x member) in
+      let inside = mul_mono_left (x.top *ℤ u) (square.hi *ℤ n) (pos (10 ^ 16)) (omega (arith, ints)) (member_at_most P square x member) in
       mul_cancel (pos (10 ^ 16) *ℤ x.top) (s *ℤ n) u h
       (omega (arith, ints, scaled, inside, mul_right_comm s u n, mul_assoc (pos (10 ^ 16)) square.hi n, mul_assoc (pos (10 ^ 16)) x.top u))
 

@@ -18,8 +18,8 @@ both_or_not A B (inl a) (inl b) = inl (a, b)
 both_or_not A B (inr a) other = inr (λ h. a h.0)
 both_or_not A B (inl a) (inr b) = inr (λ h. b h.1)
 
-near_or_not : (today : DayNo) (days window : ℕ) (x : Expiry) → IsInNearWindow today days window x ⊎ ¬ IsInNearWindow today days window x
-near_or_not today days window x =
+near_window_or_not : (today : DayNo) (days window : ℕ) (x : Expiry) → IsInNearWindow today days window x ⊎ ¬ IsInNearWindow today days window x
+near_window_or_not today days window x =
     let d : ℤ = days_until today x.date in
     elim (both_or_not (pos 1 ≤ℤ d) (pos days <ℤ (d +ℤ pos window)) (at_most_or_not (pos 1) d) (below_or_not (pos days) (d +ℤ pos window))) [
       | inl from ↦ elim (at_most_or_not d (pos days)) [ inl until ↦ inl (from.0, from.1, until) | inr past ↦ inr (λ h. past h.2) ]
@@ -62,7 +62,7 @@ next_total a b =
 -- one expiry is the near term, or none is in its window
 pub near_is_picked_or_none : NearIsPickedOrNone
 near_is_picked_or_none today days window expiries =
-    elim (best_or_none (IsInNearWindow today days window) IsTakenBeforeAsNear (near_or_not today days window) near-reflexive near_total near-transitive expiries) [
+    elim (best_or_none (IsInNearWindow today days window) IsTakenBeforeAsNear (near_window_or_not today days window) near-reflexive near_total near-transitive expiries) [
       | inl found ↦ inl (
         found.0,
         record {

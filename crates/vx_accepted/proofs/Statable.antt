@@ -17,7 +17,7 @@ use Rattle.vx_formula.specs.Term.{TermFacts}
 use Rattle.vx_formula.specs.Selection.{is_selected, selected_rows}
 use Rattle.vx_formula.specs.Strip.{entries_after, strip}
 use Rattle.vx_formula.proofs.Lists.{In, all_in}
-use Rattle.vx_forward.proofs.ForwardLemmas.{unit_at_most}
+use Rattle.vx_interval.proofs.Ranges.{unit_at_most}
 use Rattle.vx_cert.specs.declared.certificate.Ends.{Ends as CertEnds}
 use Rattle.vx_cert.specs.declared.rows.CertRow.{CertRow}
 use Rattle.vx_cert.specs.Ranges.{AreEndsInRange, IsExpiryInRange, IsTermInRange}

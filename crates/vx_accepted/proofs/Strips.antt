@@ -56,23 +56,23 @@ strikes_of_entries level below (first ∷ rest) row (inl same) = (_, inl refl, a
 strikes_of_entries level below (first ∷ rest) row (inr later) = let found = strikes_of_entries level (Some first.strike) rest row later in (found.0, inr found.1, found.2)
 
 -- where not all are at least k, one is less, and the other way round
-one_less : (k : ℕ) (rows : List StrikeRow) → ((row : StrikeRow) → In rows row → k ≤ row.strike) ⊎ ((row : StrikeRow) × In rows row × (row.strike < k))
-one_less k [] = inl (λ row h. elim h [ ])
-one_less k (row ∷ rows) =
+none_or_one_below : (k : ℕ) (rows : List StrikeRow) → ((row : StrikeRow) → In rows row → k ≤ row.strike) ⊎ ((row : StrikeRow) × In rows row × (row.strike < k))
+none_or_one_below k [] = inl (λ row h. elim h [ ])
+none_or_one_below k (row ∷ rows) =
     elim (cases_lt row.strike k) [
       | inl less ↦ inr (row, inl refl, less)
-      | inr more ↦ elim (one_less k rows) [
+      | inr more ↦ elim (none_or_one_below k rows) [
         | inl all ↦ inl (λ r at. elim at [ inl same ↦ subst (λ (x : StrikeRow). k ≤ x.strike) same more | inr later ↦ all r later ])
         | inr found ↦ inr (found.0, inr found.1, found.2)
       ]
     ]
 
-one_more : (k : ℕ) (rows : List StrikeRow) → ((row : StrikeRow) → In rows row → row.strike ≤ k) ⊎ ((row : StrikeRow) × In rows row × (k < row.strike))
-one_more k [] = inl (λ row h. elim h [ ])
-one_more k (row ∷ rows) =
+none_or_one_above : (k : ℕ) (rows : List StrikeRow) → ((row : StrikeRow) → In rows row → row.strike ≤ k) ⊎ ((row : StrikeRow) × In rows row × (k < row.strike))
+none_or_one_above k [] = inl (λ row h. elim h [ ])
+none_or_one_above k (row ∷ rows) =
     elim (cases_lt k row.strike) [
       | inl more ↦ inr (row, inl refl, more)
-      | inr less ↦ elim (one_more k rows) [
+      | inr less ↦ elim (none_or_one_above k rows) [
         | inl all ↦ inl (λ r at. elim at [ inl same ↦ subst (λ (x : StrikeRow). x.strike ≤ k) same less | inr later ↦ all r later ])
         | inr found ↦ inr (found.0, inr found.1, found.2)
       ]
@@ -100,11 +100,11 @@ strip_is_stated P rows k listed none =
     record {
       is_strip = stated_back P (strip rows k);
       has_money = money_at rows k listed none.has_money;
-      has_put = elim (one_less k (selected_rows rows k)) [
+      has_put = elim (none_or_one_below k (selected_rows rows k)) [
         | inl all ↦ absurd (none.has_put (all_from_in (λ (r : StrikeRow). k ≤ r.strike) (selected_rows rows k) all))
         | inr found ↦ stated_strike P (λ s. s < k) rows k found.0 found.1 found.2
       ];
-      has_call = elim (one_more k (selected_rows rows k)) [
+      has_call = elim (none_or_one_above k (selected_rows rows k)) [
         | inl all ↦ absurd (none.has_call (all_from_in (λ (r : StrikeRow). r.strike ≤ k) (selected_rows rows k) all))
         | inr found ↦ stated_strike P (λ s. k < s) rows k found.0 found.1 found.2
       ];
@@ -120,8 +120,8 @@ round_up n d positive =
     omega (arith, parts, small)
 
 -- a quotient rounded down is at most the same rounded up
-pub in_order : (n d : ℕ) → 0 < d → n / d ≤ (n + (d - 1)) / d
-in_order n d positive =
+pub rounded_in_order : (n d : ℕ) → 0 < d → n / d ≤ (n + (d - 1)) / d
+rounded_in_order n d positive =
     let low = div-mul-le_self n d in
     let high = round_up n d positive in
     le_of_mul-le-mul_right (le_trans low high) positive
@@ -147,7 +147,7 @@ contribution_is_enclosed P entry some range =
     let d : ℕ = 4 * (entry.strike * entry.strike) in
     let n : ℕ = 5 * (entry.d * entry.q4) * 2 ^ P in
     let positive : 0 < d = omega (arith, square) in
-    record { in_order = in_order n d positive; in_range = range; low = div-mul-le_self n d; high = round_up n d positive }
+    record { in_order = rounded_in_order n d positive; in_range = range; low = div-mul-le_self n d; high = round_up n d positive }
 
 -- each stated contribution lies between its ends
 pub contributions_are_enclosed : (P : ℕ) (rows : List StrikeRow) (k : ℕ) → AreLawfulRows rows → upper_total P (strip rows k) ≤ STRIP_TOTAL_MAX * 2 ^ P

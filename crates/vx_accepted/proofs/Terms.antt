@@ -39,7 +39,7 @@ use Rattle.vx_certify.specs.Certified.{certified_ends, certified_pair, certified
 use Rattle.vx_accepted.specs.Certified.{CertifiedTermIsTrue}
 use Rattle.vx_accepted.proofs.Exponentials.{terms_are_taylor, exponential_is_enclosed}
 use Rattle.vx_accepted.proofs.Forwards.{forward_is_enclosed, level_is_of_ends, excess_is_enclosed}
-use Rattle.vx_accepted.proofs.Strips.{certified_entry, certified_is, strip_is_stated, contributions_are_enclosed, total_is_enclosed, entry_strike, in_order}
+use Rattle.vx_accepted.proofs.Strips.{certified_entry, certified_is, strip_is_stated, contributions_are_enclosed, total_is_enclosed, entry_strike, rounded_in_order}
 use Rattle.vx_accepted.proofs.Variances.{variance_is_enclosed}
 
 -- ---- an exponent and its rate
@@ -56,8 +56,8 @@ rate_negative (negsuc n) minutes h = omega (arith, ints)
 size_is : (rate : ℤ) (minutes : ℕ) → nat_abs (rate *ℤ pos minutes) ≡ nat_abs rate * minutes
 size_is rate minutes = unsigned_abs-mul rate (pos minutes)
 
-rate_in_range : (o : Option ℤ) (rate : ℤ) → o ≡ Some rate → IfSome o IsRateInRange → IsRateInRange rate
-rate_in_range o rate is h = let P : Option ℤ → Type 0 = λ x. IfSome x IsRateInRange in subst P is h
+some_rate_in_range : (o : Option ℤ) (rate : ℤ) → o ≡ Some rate → IfSome o IsRateInRange → IsRateInRange rate
+some_rate_in_range o rate is h = let P : Option ℤ → Type 0 = λ x. IfSome x IsRateInRange in subst P is h
 
 -- ---- sums
 
@@ -67,7 +67,7 @@ totals_in_order P (entry ∷ entries) some =
     let low = sum_by-cons (lower_end P) entry entries in
     let high = sum_by-cons (upper_end P) entry entries in
     let square : 0 < entry.strike * entry.strike = let one = some entry (inl refl) in mul-pos (omega (arith, one)) (omega (arith, one)) in
-    let here : lower_end P entry ≤ upper_end P entry = in_order (5 * (entry.d * entry.q4) * 2 ^ P) (4 * (entry.strike * entry.strike)) (omega (arith, square)) in
+    let here : lower_end P entry ≤ upper_end P entry = rounded_in_order (5 * (entry.d * entry.q4) * 2 ^ P) (4 * (entry.strike * entry.strike)) (omega (arith, square)) in
     let rest = totals_in_order P entries (λ other at. some other (inr at)) in
     omega (arith, low, high, here, rest)
 
@@ -82,7 +82,7 @@ module _ (P : ℕ) (x : Expiry) (facts : TermFacts) (run : TermRun P) (scale : I
       let term : Term = record { rows = facts.rows; rate = run.rate; minutes = run.minutes; pair = formula_pair run.pair } in
       let most = (lawful.minutes).1 in
       let same = is.minutes_are in
-      (exponent_is_small term (rate_in_range facts.rate run.rate is.rate_stands lawful.rate) (omega (arith, most, same))).0
+      (exponent_is_small term (some_rate_in_range facts.rate run.rate is.rate_stands lawful.rate) (omega (arith, most, same))).0
 
   -- the exponential
   taylor : AreTaylorTerms P (nat_abs run.rate * run.minutes) (YEAR_MINUTES * RATE_UNITS) run.exp.t_lo run.exp.t_hi

@@ -4,8 +4,7 @@ use Rattle.std.proofs.lemmas.Int.{ints}
 use Rattle.std.proofs.lemmas.Bool.{cases_lt}
 use Rattle.std.specs.Prelude.{FitsSigned, ◌^◌}
 use mir.Syntax.{w128}
-use Rattle.std.proofs.Math.Pow.{pow_mono}
-use Rattle.vx_interval.specs.Ends.{IsScale, unit}
+use Rattle.vx_interval.specs.Ends.{unit}
 use Rattle.vx_interval.proofs.Widths.{within}
 use Rattle.vx_interval.proofs.Ranges.{cast, fits_within}
 use Rattle.vx_num.specs.SignedSquare.{signed_square}
@@ -166,11 +165,6 @@ pub ceiling_bound : (u x n : ℤ) → pos 0 <ℤ u → neg_ℤ (pos 1024 *ℤ u)
 ceiling_bound u x n h low high f =
     let r = ceiling_within (pos 10000000000000000 *ℤ x) u n (pos 10240000000000000000) h (omega (arith, ints)) (omega (arith, ints)) f in
     within n 10240000000000000000 r.1 (omega (arith, ints, r.0))
-
--- the unit of each scale is at most 2^62
-pub unit_at_most : (P : ℕ) → IsScale P → unit P ≤ℤ pos (2 ^ 62)
-unfolding unit
-unit_at_most P h = let m : 2 ^ P ≤ 2 ^ 62 = pow_mono h.1 in omega (arith, ints)
 
 -- ---- the same under casts
 

@@ -1,21 +1,17 @@
 -- One step of a list of terms, as the code takes it.
-use Rattle.std.proofs.Common.{◌≡◌, ◌∙◌, ℕ, ◌+◌, ◌*◌, ◌/◌, ◌^◌, ◌<◌, ◌≤◌, List, length, get_or, set, sym, subst, arith, mul-le-mul_left, mul-le-mul_right, mul-le-mul, mul-pos, add-one, eq-or-lt_of_le, refl, inl, inr, ◌≢◌, le_of_lt}
+use Rattle.std.proofs.Common.{◌≡◌, ◌∙◌, ℕ, ◌+◌, ◌*◌, ◌/◌, ◌^◌, ◌<◌, ◌≤◌, List, length, get_or, set, sym, subst, arith, mul-le-mul_left, mul-le-mul_right, mul-le-mul, add-one, eq-or-lt_of_le, refl, inl, inr, ◌≢◌, le_of_lt}
 use Rattle.std.proofs.lemmas.List.{get_or-set_same, get_or-set_other, length-set}
 use Rattle.std.proofs.lemmas.Bool.{cases_lt}
 use Rattle.std.proofs.Math.Nat.{div-le_of_le-mul}
 use Rattle.std.specs.Int.{div_ceil}
 use Rattle.vx_bounds.specs.Exponential.{IsTerms, low_term, high_term, low_sum, high_sum}
-use Rattle.vx_bounds.proofs.TermLemmas.{ceil_below}
+use Rattle.vx_bounds.proofs.TermLemmas.{divisor_positive, ceil_below}
 use Rattle.vx_bounds.proofs.EndLemmas.{low_first, high_first}
 use Rattle.vx_bounds.proofs.Loops.{Collects}
 
 -- the divisor is at least p
 pub divisor_above : (p q k : ℕ) → 8 * p ≤ q → p ≤ q * (k + 1)
 divisor_above p q k h = let m : q * 1 ≤ q * (k + 1) = mul-le-mul_left q (omega arith) in omega arith
-
--- the divisor of a term is positive
-pub divisor_positive : (q k : ℕ) → 0 < q → 0 < q * (k + 1)
-divisor_positive q k h = mul-pos h (omega arith)
 
 -- products of the code stay below 2^105 and 2^50
 pub product_bound : (t p q : ℕ) → t ≤ 2 ^ 62 → 8 * p ≤ q → q < 2 ^ 46 → t * p ≤ 2 ^ 105

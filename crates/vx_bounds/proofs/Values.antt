@@ -215,9 +215,9 @@ pub record IsFound (P p q low high last : ℕ) : Type 0 where
   pub fits : high + 2 * last < 2 ^ 63
   pub ordered : low ≤ high + 2 * last
 
-found_at : (P p q low high last : ℕ) → IsScale P → 0 < q → 8 * p ≤ q → low ≡ low_sum (2 ^ P) p q 12 → high ≡ high_sum (2 ^ P) p q 12 → last ≡ high_term (2 ^ P) p q 13 → IsFound P p q low high last
+sums_are_found : (P p q low high last : ℕ) → IsScale P → 0 < q → 8 * p ≤ q → low ≡ low_sum (2 ^ P) p q 12 → high ≡ high_sum (2 ^ P) p q 12 → last ≡ high_term (2 ^ P) p q 13 → IsFound P p q low high last
 unfolding low_end high_end
-found_at P p q low high last s hq h a b e =
+sums_are_found P p q low high last s hq h a b e =
     let u = unit_facts P s in
     let most = u.high in
     let f : high + 2 * last ≡ high_sum (2 ^ P) p q 12 + 2 * high_term (2 ^ P) p q 13 = omega arith in
@@ -229,7 +229,7 @@ found_at P p q low high last s hq h a b e =
 -- the sums of a complete loop do
 pub found : (P p q one low high : ℕ) (terms : List ℕ) → IsScale P → 0 < q → 8 * p ≤ q → one ≡ 2 ^ P → low ≡ low_sum one p q 12 → high ≡ high_sum one p q 12 → IsTerms (high_term one p q) terms → IsFound P p q low high (get_or terms 13 0)
 found P p q one low high terms s hq h e a b t =
-    found_at P p q low high (get_or terms 13 0) s hq h (a ∙ ap (λ u. low_sum u p q 12) e) (b ∙ ap (λ u. high_sum u p q 12) e) (t.each 13 (omega arith) ∙ ap (λ u. high_term u p q 13) e)
+    sums_are_found P p q low high (get_or terms 13 0) s hq h (a ∙ ap (λ u. low_sum u p q 12) e) (b ∙ ap (λ u. high_sum u p q 12) e) (t.each 13 (omega arith) ∙ ap (λ u. high_term u p q 13) e)
 
 -- the unit of each scale is at most 2^62
 pub units_small : (P one : ℕ) → IsScale P → one ≡ 2 ^ P → one ≤ 2 ^ 62

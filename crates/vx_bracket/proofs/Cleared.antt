@@ -6,8 +6,8 @@ use Rattle.vx_bracket.specs.Cleared.{series_bottom, series_top, upper_top}
 -- ---- whole numbers
 
 -- a/b <= c/d and c/d <= e/f give a/b <= e/f
-pub cross_trans : (a b c d e f : ℕ) → 0 < d → a * d ≤ c * b → c * f ≤ e * d → a * f ≤ e * b
-cross_trans a b c d e f hd first second =
+pub quotient_trans : (a b c d e f : ℕ) → 0 < d → a * d ≤ c * b → c * f ≤ e * d → a * f ≤ e * b
+quotient_trans a b c d e f hd first second =
     let one : (a * d) * f ≤ (c * b) * f = mul-le-mul_right f first in
     let two : (c * f) * b ≤ (e * d) * b = mul-le-mul_right b second in
     let three : d * (a * f) ≤ d * (e * b) = omega arith in
@@ -36,9 +36,9 @@ top_positive p q n h = let b = bottom_below_top p q n in let c = bottom_positive
 
 -- ---- nested
 
-low_step : (p q n : ℕ) → series_top p q n * series_bottom q (suc n) ≤ series_top p q (suc n) * series_bottom q n
+series_step : (p q n : ℕ) → series_top p q n * series_bottom q (suc n) ≤ series_top p q (suc n) * series_bottom q n
 unfolding series_bottom series_top
-low_step p q n = omega arith
+series_step p q n = omega arith
 
 -- the sum never falls
 pub low_nested : (p q n m : ℕ) → 0 < q → n ≤ m → series_top p q n * series_bottom q m ≤ series_top p q m * series_bottom q n
@@ -47,13 +47,13 @@ low_nested p q n (suc m) hq h =
     elim (eq-or-lt_of_le h) [
       | inl e ↦ rw e (le_refl (series_top p q (suc m) * series_bottom q (suc m)))
       | inr l ↦
-          cross_trans (series_top p q n) (series_bottom q n) (series_top p q m) (series_bottom q m) (series_top p q (suc m)) (series_bottom q (suc m))
-          (bottom_positive q m hq) (low_nested p q n m hq (omega arith)) (low_step p q m)
+          quotient_trans (series_top p q n) (series_bottom q n) (series_top p q m) (series_bottom q m) (series_top p q (suc m)) (series_bottom q (suc m))
+          (bottom_positive q m hq) (low_nested p q n m hq (omega arith)) (series_step p q m)
     ]
 
-high_step : (p q n : ℕ) → 2 * p ≤ q * suc (suc n) → upper_top p q (suc n) * series_bottom q (suc n) ≤ upper_top p q n * series_bottom q (suc (suc n))
+upper_step : (p q n : ℕ) → 2 * p ≤ q * suc (suc n) → upper_top p q (suc n) * series_bottom q (suc n) ≤ upper_top p q n * series_bottom q (suc (suc n))
 unfolding series_bottom series_top upper_top
-high_step p q n h =
+upper_step p q n h =
     let t : ℕ = series_top p q n * (q * suc n) in
     let y : ℕ = p ^ suc n in
     let k : ℕ = q * suc (suc n) in
@@ -71,8 +71,8 @@ high_nested p q n (suc m) hq hp h =
     elim (eq-or-lt_of_le h) [
       | inl e ↦ rw e (le_refl (upper_top p q (suc m) * series_bottom q (suc (suc m))))
       | inr l ↦
-          cross_trans (upper_top p q (suc m)) (series_bottom q (suc (suc m))) (upper_top p q m) (series_bottom q (suc m)) (upper_top p q n) (series_bottom q (suc n))
-          (bottom_positive q (suc m) hq) (high_step p q m (two_steps p q m hp)) (high_nested p q n m hq hp (omega arith))
+          quotient_trans (upper_top p q (suc m)) (series_bottom q (suc (suc m))) (upper_top p q m) (series_bottom q (suc m)) (upper_top p q n) (series_bottom q (suc n))
+          (bottom_positive q (suc m) hq) (upper_step p q m (two_steps p q m hp)) (high_nested p q n m hq hp (omega arith))
     ]
   where
     two_steps : (p q m : ℕ) → p ≤ q → 2 * p ≤ q * suc (suc m)

@@ -6,7 +6,7 @@ use Rattle.vx_num.specs.Fraction.{Fraction}
 use Rattle.vx_bracket.specs.Bracket.{IsBetweenSums, Bracket}
 use Rattle.vx_bracket.specs.Cleared.{series_bottom, series_top, upper_top}
 use Rattle.vx_bracket.specs.Laws.{BracketHasMember, BracketsNest, BracketsMeet, MembersArePositive, ZeroGivesOne, FormsAgreeAtZero}
-use Rattle.vx_bracket.proofs.Cleared.{cross_trans, bottom_positive, top_positive, low_nested, high_nested, low_below_high, top_at_zero, upper_at_zero}
+use Rattle.vx_bracket.proofs.Cleared.{quotient_trans, bottom_positive, top_positive, low_nested, high_nested, low_below_high, top_at_zero, upper_at_zero}
 use Rattle.vx_bracket.proofs.Series.{natural, IsBetweenCleared, between_cleared, cleared_between, between_positive}
 
 -- ---- a bracket by the cleared sums
@@ -65,8 +65,8 @@ bracket_has_member n x hx = has_member_at n x.top x.bottom hx
 
 nest_cleared : (n m p q u v : ℕ) → 0 < q → p ≤ q → n ≤ m → IsBetweenCleared m p q u v → IsBetweenCleared n p q u v
 nest_cleared n m p q u v hq hp le h = record {
-  above_sum = cross_trans (series_top p q n) (series_bottom q n) (series_top p q m) (series_bottom q m) u v (bottom_positive q m hq) (low_nested p q n m hq le) h.above_sum;
-  below_upper = cross_trans u v (upper_top p q m) (series_bottom q (suc m)) (upper_top p q n) (series_bottom q (suc n)) (bottom_positive q (suc m) hq) h.below_upper (high_nested p q n m hq hp le);
+  above_sum = quotient_trans (series_top p q n) (series_bottom q n) (series_top p q m) (series_bottom q m) u v (bottom_positive q m hq) (low_nested p q n m hq le) h.above_sum;
+  below_upper = quotient_trans u v (upper_top p q m) (series_bottom q (suc m)) (upper_top p q n) (series_bottom q (suc n)) (bottom_positive q (suc m) hq) h.below_upper (high_nested p q n m hq hp le);
 }
 
 nest_at : (n m : ℕ) (x : ℤ) (q : ℕ) (u : ℤ) (v : ℕ) → 0 < q → nat_abs x ≤ q → n ≤ m → pos 0 <ℤ u → Bracket m (record { top = x; bottom = q }) (record { top = u; bottom = v }) → Bracket n (record { top = x; bottom = q }) (record { top = u; bottom = v })

@@ -90,8 +90,8 @@ same_below a b t s u v hb hs e h =
     let three : b * (t * v) ≤ b * (u * s) = omega arith in
     le_of_mul-le-mul_left three hb
 
-same_above : (a b t s u v : ℕ) → 0 < b → 0 < s → a * s ≡ t * b → u * b ≤ a * v → u * s ≤ t * v
-same_above a b t s u v hb hs e h =
+same_quotient_above : (a b t s u v : ℕ) → 0 < b → 0 < s → a * s ≡ t * b → u * b ≤ a * v → u * s ≤ t * v
+same_quotient_above a b t s u v hb hs e h =
     let one : s * (u * b) ≤ s * (a * v) = mul-le-mul_left s h in
     let two : (a * s) * v ≡ (t * b) * v = ap (λ z. z * v) e in
     let three : b * (u * s) ≤ b * (t * v) = omega arith in
@@ -113,7 +113,7 @@ between_cleared n p q u v hq h =
     let high : u * w.b ≤ w.a * v = at_most_natural u w.b w.a v (let P : Fraction → Type 0 = λ z. natural u v ≤ᶠ z in subst P w.is h.below_upper) in
     record {
       above_sum = same_below s.a s.b (series_top p q n) (series_bottom q n) u v s.positive (bottom_positive q n hq) s.equal low;
-      below_upper = same_above w.a w.b (upper_top p q n) (series_bottom q (suc n)) u v w.positive (bottom_positive q (suc n) hq) w.equal high;
+      below_upper = same_quotient_above w.a w.b (upper_top p q n) (series_bottom q (suc n)) u v w.positive (bottom_positive q (suc n) hq) w.equal high;
     }
 
 -- and the other way round
@@ -122,7 +122,7 @@ cleared_between n p q u v hq h =
     let s = sum_cleared p q n hq in
     let w = upper_cleared p q n hq in
     let low : s.a * v ≤ u * s.b = same_below (series_top p q n) (series_bottom q n) s.a s.b u v (bottom_positive q n hq) s.positive (sym s.equal) h.above_sum in
-    let high : u * w.b ≤ w.a * v = same_above (upper_top p q n) (series_bottom q (suc n)) w.a w.b u v (bottom_positive q (suc n) hq) w.positive (sym w.equal) h.below_upper in
+    let high : u * w.b ≤ w.a * v = same_quotient_above (upper_top p q n) (series_bottom q (suc n)) w.a w.b u v (bottom_positive q (suc n) hq) w.positive (sym w.equal) h.below_upper in
     record {
       above_sum = let P : Fraction → Type 0 = λ z. z ≤ᶠ natural u v in subst P (sym s.is) (natural_at_most s.a v u s.b low);
       below_upper = let P : Fraction → Type 0 = λ z. natural u v ≤ᶠ z in subst P (sym w.is) (natural_at_most u w.b w.a v high);

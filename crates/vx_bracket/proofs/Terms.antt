@@ -2,7 +2,7 @@
 use Rattle.std.proofs.Common.{ℕ, zero, suc, ◌+◌, ◌*◌, ◌^◌, ◌<◌, ◌≤◌, arith, mul-le-mul_left, mul-le-mul_right}
 use Rattle.std.proofs.Math.Nat.{pow-succ', pow-zero, le_of_mul-le-mul_left}
 use Rattle.vx_bracket.specs.Cleared.{series_bottom, series_top, upper_top}
-use Rattle.vx_bracket.proofs.Cleared.{cross_trans, bottom_positive}
+use Rattle.vx_bracket.proofs.Cleared.{quotient_trans, bottom_positive}
 
 -- t 0 + t 1 + .. + t n
 unfoldable pub partial_sum : (ℕ → ℕ) → ℕ → ℕ
@@ -68,8 +68,8 @@ pub enclosed_up : (u p q n low high top bottom : ℕ) → 0 < q
 enclosed_up u p q n low high top bottom hq below above from to =
     let b = bottom_positive q n hq in
     let b' = bottom_positive q (suc n) hq in (
-      cross_trans low u (series_top p q n) (series_bottom q n) top bottom b (omega arith) from,
-      cross_trans top bottom (upper_top p q n) (series_bottom q (suc n)) high u b' to (omega arith),
+      quotient_trans low u (series_top p q n) (series_bottom q n) top bottom b (omega arith) from,
+      quotient_trans top bottom (upper_top p q n) (series_bottom q (suc n)) high u b' to (omega arith),
     )
 
 -- its reciprocal lies between (u*u)/high and (u*u)/low, over u

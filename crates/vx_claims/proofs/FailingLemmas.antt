@@ -37,8 +37,8 @@ test_at-number Variance = refl
 test_at-number Square = refl
 test_at-number IndexEnds = refl
 
-same_number : (Holds : Test → Type 0) (s t : Test) → FirstFailing Holds s → FirstFailing Holds t → test_number s ≡ test_number t
-same_number Holds s t h l =
+failing_number_is_one : (Holds : Test → Type 0) (s t : Test) → FirstFailing Holds s → FirstFailing Holds t → test_number s ≡ test_number t
+failing_number_is_one Holds s t h l =
     elim (cases_order (test_number s) (test_number t)) [
       | inl e ↦ e
       | inr apart ↦ elim apart [ inl less ↦ absurd (h.fails (l.all_before s less)) | inr more ↦ absurd (l.fails (h.all_before t more)) ]
@@ -46,7 +46,7 @@ same_number Holds s t h l =
 
 -- of a certificate at most one test is the first that fails
 pub failing_test_is_one : (events : List Event) (c : Certificate) (s t : Test) → FirstFailing (Meets events c) s → FirstFailing (Meets events c) t → s ≡ t
-failing_test_is_one events c s t h l = sym (test_at-number s) ∙ ap test_at (same_number (Meets events c) s t h l) ∙ test_at-number t
+failing_test_is_one events c s t h l = sym (test_at-number s) ∙ ap test_at (failing_number_is_one (Meets events c) s t h l) ∙ test_at-number t
 
 -- of an accepted certificate no test fails
 pub accepted_has_no_failing_test : (events : List Event) (c : Certificate) (test : Test) → Accepts events c → FirstFailing (Meets events c) test → ⊥

@@ -1,5 +1,7 @@
 -- the rows of a feed rise
 pub mod RisingRows
+-- events, strikes and rates are in range
+pub mod InRange
 -- where the opening stands
 pub mod OpeningPlaces
 -- tests and levels

@@ -215,14 +215,14 @@ printed_are : printed_forward SCALE forward ≡ (printed, printed)
 unfolding unit floor_of ceiling_of
 printed_are = refl
 
-listed_of_three : (a b c k : ℕ) → In (a ∷ (b ∷ (c ∷ []))) k → (a ≡ k) ⊎ ((b ≡ k) ⊎ (c ≡ k))
-listed_of_three a b c k (inl e) = inl e
-listed_of_three a b c k (inr (inl e)) = inr (inl e)
-listed_of_three a b c k (inr (inr (inl e))) = inr (inr e)
-listed_of_three a b c k (inr (inr (inr h))) = elim h [ ]
+in_list_of_three : (a b c k : ℕ) → In (a ∷ (b ∷ (c ∷ []))) k → (a ≡ k) ⊎ ((b ≡ k) ⊎ (c ≡ k))
+in_list_of_three a b c k (inl e) = inl e
+in_list_of_three a b c k (inr (inl e)) = inr (inl e)
+in_list_of_three a b c k (inr (inr (inl e))) = inr (inr e)
+in_list_of_three a b c k (inr (inr (inr h))) = elim h [ ]
 
 one_of_three : (k : ℕ) → IsListed rows k → (1900000 ≡ k) ⊎ ((2000000 ≡ k) ⊎ (2100000 ≡ k))
-one_of_three k listed = listed_of_three 1900000 2000000 2100000 k (in_from_contains (strikes rows) k listed)
+one_of_three k listed = in_list_of_three 1900000 2000000 2100000 k (in_from_contains (strikes rows) k listed)
 
 level_is : IsLevelRow rows printed printed 1 level_row
 level_is = record {
@@ -246,8 +246,8 @@ says =
       λ none. let far : 4000000 < 2100000 = none 2100000 (2, omega arith, refl) (omega arith) in omega (arith, far),
     )
 
-has_money : LacksMoney rows 2000000 → ⊥
-has_money h = of_row h.row (in_from_contains rows h.row h.listed) h.at_level h.lacks
+level_has_money : LacksMoney rows 2000000 → ⊥
+level_has_money h = of_row h.row (in_from_contains rows h.row h.listed) h.at_level h.lacks
   where
     of_row : (row : StrikeRow) → In rows row → row.strike ≡ 2000000 → row.put.there && row.call.there ≡ false → ⊥
     of_row row (inl e) at lacks = let strike = ap (λ (r : StrikeRow). r.strike) e in omega (arith, strike, at)
@@ -278,7 +278,7 @@ numbers_are x minutes = record {
   place = 1;
   tells = says;
   level_is = refl;
-  has_strip = record { has_money = has_money; has_put = has_put; has_call = has_call };
+  has_strip = record { has_money = level_has_money; has_put = has_put; has_call = has_call };
   strip_is = refl;
   sum_is = record { rows = refl; total = refl; accepted = lit≤ tt };
   excess_is = refl;
@@ -314,9 +314,9 @@ next_answer = subst (λ (facts : TermFacts). IsRun SCALE weekly_24 facts next_ru
 abbrev square : Ends
 square = ends_at 196803538858693955 196803538858694029
 
-square_is : square_of_runs 30 near_run next_run ≡ square
+index_square_is : square_of_runs 30 near_run next_run ≡ square
 unfolding unit floor_of ceiling_of
-square_is = refl
+index_square_is = refl
 
 ends_are : AreIndexEnds SCALE square (pos 20657919) (pos 20657920)
 unfolding unit
@@ -331,7 +331,7 @@ decides = (not_straddled 20657919 (pos 20657920) (lt_z_yes tt), le_z_yes tt, 206
 figure_is : IsFigureAnswer 26 half_past_eight 30 near_run next_run (Published 2066 (pos 20657919) (pos 20657920) day_certificate)
 unfolding unit floor_of ceiling_of
 figure_is = (
-  subst (λ (x : Ends). AreIndexEnds SCALE x (pos 20657919) (pos 20657920)) (sym square_is) ends_are,
+  subst (λ (x : Ends). AreIndexEnds SCALE x (pos 20657919) (pos 20657920)) (sym index_square_is) ends_are,
   decides,
   refl,
 )

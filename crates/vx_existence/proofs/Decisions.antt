@@ -24,9 +24,9 @@ not_straddled v hi short (b, inr (k, is), above, most) =
     let past = no_earlier v k later in
     omega (arith, ints, is, most, short, past)
 
-below_zero : (n : ℕ) (hi : ℤ) → hi <ℤ pos 0 → IsStraddled (negsuc n) hi → ⊥
-below_zero n hi below (b, inl zero, above, most) = omega (arith, ints, zero, most, below)
-below_zero n hi below (b, inr (k, is), above, most) = omega (arith, ints, is, most, below)
+negative_not_straddled : (n : ℕ) (hi : ℤ) → hi <ℤ pos 0 → IsStraddled (negsuc n) hi → ⊥
+negative_not_straddled n hi below (b, inl zero, above, most) = omega (arith, ints, zero, most, below)
+negative_not_straddled n hi below (b, inr (k, is), above, most) = omega (arith, ints, is, most, below)
 
 -- of any two ends there is a decision
 pub ends_are_decided : EndsAreDecided
@@ -34,4 +34,4 @@ ends_are_decided (pos v) hi =
     by_lt_z hi (pos (next_boundary v)) (λ short. (Cents (cents_of v), (not_straddled v hi short, omega (arith, ints), v, refl, refl)))
     (λ long. let above = is_above v in (Straddle, (pos (next_boundary v), inr (cents_of v, refl), omega (arith, ints, above), long)))
 ends_are_decided (negsuc n) hi =
-    by_lt_z hi (pos 0) (λ below. (Negative, (below_zero n hi below, below))) (λ most. (Straddle, (pos 0, inl refl, omega (arith, ints), most)))
+    by_lt_z hi (pos 0) (λ below. (Negative, (negative_not_straddled n hi below, below))) (λ most. (Straddle, (pos 0, inl refl, omega (arith, ints), most)))

@@ -1,64 +1,27 @@
 -- The prices and the rates that events in range show are in range.
-use Rattle.std.proofs.Common.{◌≡◌, ◌⊎◌, inl, inr, refl, subst, ℕ, ℤ, Bool, true, false, cond, List, [], ◌∷◌, Option, Some, None, arith}
+use Rattle.std.proofs.Common.{◌≡◌, inl, inr, refl, subst, ℕ, ℤ, Bool, true, false, cond, List, [], ◌∷◌, Option, Some, None, arith}
 use Rattle.std.specs.Prelude.{IfSome}
-use Rattle.std.specs.Option.{option_or, option_and_then}
+use Rattle.std.specs.Option.{option_and_then}
 use Rattle.vx_clock.specs.declared.terms.Expiry.{Expiry}
 use Rattle.vx_symbol.specs.declared.rows.Price.{Price}
 use Rattle.vx_symbol.specs.declared.symbols.Symbol.{Symbol}
 use Rattle.vx_symbol.specs.Rows.{IsLawfulPrice, IsRateInRange}
 use Rattle.vx_feed.specs.declared.events.Event.{Event}
 use Rattle.vx_feed.specs.declared.events.Event.TheVariants as event
-use Rattle.vx_feed.specs.Same.{is_same_expiry, is_same_series}
+use Rattle.vx_feed.specs.Same.{is_same_series}
 use Rattle.vx_feed.specs.Ranges.{IsInRange, IsPrice}
 use Rattle.vx_feed.specs.Said.{first_said, last_said}
 use Rattle.vx_feed.specs.Standing.{BidAsk, quote_of, rate_of, trade_of, can_stand, if_standing, since_listed, before_opening, standing_quote, standing_rate, opening_trade}
 use Rattle.vx_feed.specs.Listed.{quoted_price, standing_price}
 use Rattle.vx_feed.specs.Opening.{traded_price, opening_price}
 use Rattle.vx_formula.proofs.Lists.{In}
-use Rattle.vx_facts.proofs.InRange.{AllInRange, since_in_range, before_in_range}
-
--- ---- what is said is said by one of the events
-
-either : {A : Type 0} (a b : Option A) (r : A) → option_or a b ≡ Some r → (a ≡ Some r) ⊎ (b ≡ Some r)
-either (Some x) b r h = inl h
-either None b r h = inr h
-
-last_in : {A : Type 0} (says : Event → Option A) (events : List Event) (r : A) → last_said says events ≡ Some r → (e : Event) × In events e × (says e ≡ Some r)
-last_in says [] r h = absurd cc
-last_in says (e ∷ events) r h =
-    elim (either (last_said says events) (says e) r h) [
-      | inl later ↦ let found = last_in says events r later in (found.0, inr found.1, found.2)
-      | inr here ↦ (e, inl refl, here)
-    ]
-
-first_in : {A : Type 0} (says : Event → Option A) (events : List Event) (r : A) → first_said says events ≡ Some r → (e : Event) × In events e × (says e ≡ Some r)
-first_in says [] r h = absurd cc
-first_in says (e ∷ events) r h =
-    elim (either (says e) (first_said says events) r h) [
-      | inl here ↦ (e, inl refl, here)
-      | inr later ↦ let found = first_in says events r later in (found.0, inr found.1, found.2)
-    ]
+use Rattle.vx_claims.proofs.InRange.{AllInRange, since_in_range, before_in_range, chosen, or_either, last_in, said_rate_in_range}
 
 -- ---- rates
 
-chosen : {A : Type 0} (b : Bool) (a r : A) → cond b (Some a) None ≡ Some r → a ≡ r
-chosen true a r h = cc
-chosen false a r h = absurd cc
-
-said_rate : (x : Expiry) (e : Event) (r : ℤ) → IsInRange e → rate_of x e ≡ Some r → IsRateInRange r
-said_rate x (event.Rate y rate) r range h = subst IsRateInRange (chosen (is_same_expiry x y) rate r h) range.1
-said_rate x (event.Header day) r range h = absurd cc
-said_rate x (event.Expiry y) r range h = absurd cc
-said_rate x (event.Series s) r range h = absurd cc
-said_rate x (event.Quote time s bid ask) r range h = absurd cc
-said_rate x (event.Trade time s price) r range h = absurd cc
-said_rate x (event.Tick time) r range h = absurd cc
-said_rate x (event.Opening time) r range h = absurd cc
-said_rate x (event.End count) r range h = absurd cc
-
 rate_of_last : (x : Expiry) (events : List Event) (o : Option ℤ) → AllInRange events → last_said (rate_of x) events ≡ o → IfSome o IsRateInRange
 rate_of_last x events None range h = tt
-rate_of_last x events (Some r) range h = let found = last_in (rate_of x) events r h in said_rate x found.0 r (range found.0 found.1) found.2
+rate_of_last x events (Some r) range h = said_rate_in_range x events r range h
 
 -- the standing rate of events in range is in range
 pub rate_in_range : (x : Expiry) (events : List Event) → AllInRange events → IfSome (standing_rate x events) IsRateInRange
@@ -83,9 +46,9 @@ said_quote s (event.Tick time) q range h = absurd cc
 said_quote s (event.Opening time) q range h = absurd cc
 said_quote s (event.End count) q range h = absurd cc
 
-quoted_lawful : (o : Option BidAsk) → IfSome o IsQuoteInRange → IsLawfulPrice (quoted_price o)
-quoted_lawful None h = record { in_range = omega arith; absent = λ e. (refl, refl) }
-quoted_lawful (Some q) h = let bid = h.bid_is in let ask = h.ask_is in record { in_range = omega arith; absent = λ e. absurd cc }
+quoted_price_lawful : (o : Option BidAsk) → IfSome o IsQuoteInRange → IsLawfulPrice (quoted_price o)
+quoted_price_lawful None h = record { in_range = omega arith; absent = λ e. (refl, refl) }
+quoted_price_lawful (Some q) h = let bid = h.bid_is in let ask = h.ask_is in record { in_range = omega arith; absent = λ e. absurd cc }
 
 if_lawful : (q : BidAsk) (b : Bool) → IsQuoteInRange q → IfSome {T = BidAsk} (cond b (Some q) None) IsQuoteInRange
 if_lawful q true h = h
@@ -102,7 +65,7 @@ stands_in_range s events (Some q) range h =
 pub standing_lawful : (events : List Event) (s : Symbol) → AllInRange events → IsLawfulPrice (standing_price events s)
 standing_lawful events s range =
     let since = since_listed s events in
-    quoted_lawful (standing_quote s events) (stands_in_range s since (last_said (quote_of s) since) (since_in_range s events range) refl)
+    quoted_price_lawful (standing_quote s events) (stands_in_range s since (last_said (quote_of s) since) (since_in_range s events range) refl)
 
 -- ---- opening trades
 
@@ -116,6 +79,14 @@ said_trade s (event.Quote time t bid ask) p range h = absurd cc
 said_trade s (event.Tick time) p range h = absurd cc
 said_trade s (event.Opening time) p range h = absurd cc
 said_trade s (event.End count) p range h = absurd cc
+
+first_in : {A : Type 0} (says : Event → Option A) (events : List Event) (r : A) → first_said says events ≡ Some r → (e : Event) × In events e × (says e ≡ Some r)
+first_in says [] r h = absurd cc
+first_in says (e ∷ events) r h =
+    elim (or_either (says e) (first_said says events) r h) [
+      | inl here ↦ (e, inl refl, here)
+      | inr later ↦ let found = first_in says events r later in (found.0, inr found.1, found.2)
+    ]
 
 traded_lawful : (s : Symbol) (events : List Event) (o : Option ℕ) (quoted : Price) → AllInRange events → first_said (trade_of s) events ≡ o
     → IsLawfulPrice quoted → IsLawfulPrice (traded_price o quoted)

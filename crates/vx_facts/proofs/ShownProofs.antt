@@ -16,8 +16,9 @@ use Rattle.vx_feed.specs.Order.{AreLawful}
 use Rattle.vx_formula.proofs.Lists.{In, in_map, in_filter, all_from_in}
 use Rattle.vx_feed.proofs.RisingStrikes.{rows_rise}
 use Rattle.vx_facts.specs.Shown.{StandingIsLawful, OpeningIsLawful}
-use Rattle.vx_facts.proofs.InRange.{AllInRange, lawful_in_range, before_is_lawful}
-use Rattle.vx_facts.proofs.StrikeCounts.{few_strikes, strike_in_range}
+use Rattle.vx_claims.proofs.InRange.{AllInRange, lawful_in_range, strike_in_range}
+use Rattle.vx_facts.proofs.InRange.{before_is_lawful}
+use Rattle.vx_facts.proofs.StrikeCounts.{few_strikes_listed}
 use Rattle.vx_facts.proofs.PriceRanges.{rate_in_range, standing_lawful, opening_lawful}
 
 -- the row of a strike in range with lawful prices
@@ -32,7 +33,7 @@ rows_lawful : (price : Symbol → Price) (x : Expiry) (events : List Event) → 
     → AreLawfulRows (map (row_of price x) (listed_strikes x events))
 rows_lawful price x events lawful h =
     let ks = listed_strikes x events in
-    let few : length (strikes_of x events) ≤ ROWS_MAX = few_strikes x events h in
+    let few : length (strikes_of x events) ≤ ROWS_MAX = few_strikes_listed x events h in
     let listed = is_strike_listed x events in
     let parts = length-filter_both listed (λ k. not (listed k)) (λ k. refl) (strikes_of x events) in
     let fewer : length ks ≤ length (strikes_of x events) = omega (arith, parts) in

@@ -1,26 +1,19 @@
--- A lawful list of events lists at most 2,000 strikes of an expiry, all of them in range.
-use Rattle.std.proofs.Common.{◌≡◌, ◌∙◌, sym, ap, subst, refl, ◌+◌, ◌≤◌, ◌⊎◌, inl, inr, ℕ, Bool, true, false, cond, not, ◌&&◌, List, [], ◌∷◌, ◌++◌, length, Option, Some, None, append_assoc, arith}
+-- A lawful list of events lists at most 2,000 strikes of an expiry.
+use Rattle.std.proofs.Common.{◌≡◌, ◌∙◌, sym, subst, refl, ◌+◌, ◌≤◌, inl, inr, ℕ, Bool, true, false, cond, not, ◌&&◌, List, [], ◌∷◌, ◌++◌, length, Option, Some, None, append_assoc, arith}
 use Rattle.std.proofs.lemmas.List.{append-nil}
 use Rattle.std.specs.Prelude.{nat_le}
 use Rattle.std.proofs.lemmas.Bool.{cases_Bool, cond-true, cond-false, or_parts, leb-false}
 use Rattle.vx_clock.specs.declared.terms.Expiry.{Expiry}
 use Rattle.vx_symbol.specs.declared.limits.TheConstants.{ROWS_MAX}
-use Rattle.vx_symbol.specs.Symbol.{IsStrikeInRange}
 use Rattle.vx_feed.specs.declared.events.Event.{Event}
 use Rattle.vx_feed.specs.declared.events.Event.TheVariants as event
 use Rattle.vx_feed.specs.declared.faults.FeedFault.{FeedFault}
 use Rattle.vx_feed.specs.Same.{is_same_expiry}
-use Rattle.vx_feed.specs.Ranges.{IsInRange}
 use Rattle.vx_feed.specs.Listed.{expiry_of, with_strike, listed_strike, strikes_of}
 use Rattle.vx_feed.specs.Order.{first_fault, order_causes, order_fault, is_too_many, has_too_many_expiries, has_too_many_strikes, IsLawfulNext, AreLawfulAfter, AreLawful}
 use Rattle.vx_feed.proofs.NextEvent.{next_strikes}
 use Rattle.vx_feed.proofs.SameLemmas.{expiry_from_same}
 use Rattle.vx_feed.proofs.StrikeLemmas.{has_strike, length-strike_more}
-use Rattle.vx_formula.proofs.Lists.{In}
-use Rattle.vx_facts.proofs.InRange.{AllInRange}
-use Rattle.vx_claims.proofs.RisingRows.{in_insert}
-
--- ---- no strike too many
 
 -- no cause of these holds
 abbrev NoneHolds : List (Bool × FeedFault) → Type 0
@@ -79,35 +72,5 @@ few_after x before (e ∷ events) h few =
     (few_after x (before ++ e ∷ []) events h.1 (subst (λ (ks : List ℕ). length ks ≤ ROWS_MAX) (sym (next_strikes x before e)) (with_fits x before e h.0 few)))
 
 -- at most 2,000 strikes of an expiry are listed on either side
-pub few_strikes : (x : Expiry) (events : List Event) → AreLawful events → length (strikes_of x events) ≤ ROWS_MAX
-few_strikes x events h = few_after x [] events h (omega arith)
-
--- ---- strikes in range
-
-chosen : (b : Bool) (a k : ℕ) → cond b (Some a) None ≡ Some k → a ≡ k
-chosen true a k h = cc
-chosen false a k h = absurd cc
-
-listed_in_range : (x : Expiry) (e : Event) (k : ℕ) → IsInRange e → listed_strike x e ≡ Some k → IsStrikeInRange k
-listed_in_range x (event.Series s) k range h = subst IsStrikeInRange (chosen (is_same_expiry x (expiry_of s)) s.strike k h) range.strike
-listed_in_range x (event.Header day) k range h = absurd cc
-listed_in_range x (event.Expiry y) k range h = absurd cc
-listed_in_range x (event.Rate y rate) k range h = absurd cc
-listed_in_range x (event.Quote time s bid ask) k range h = absurd cc
-listed_in_range x (event.Trade time s price) k range h = absurd cc
-listed_in_range x (event.Tick time) k range h = absurd cc
-listed_in_range x (event.Opening time) k range h = absurd cc
-listed_in_range x (event.End count) k range h = absurd cc
-
-in_with : (o : Option ℕ) (js : List ℕ) (i : ℕ) → In (with_strike o js) i → (o ≡ Some i) ⊎ In js i
-in_with None js i h = inr h
-in_with (Some k) js i h = elim (in_insert k js i h) [ inl e ↦ inl (ap Some e) | inr later ↦ inr later ]
-
--- each listed strike is in range
-pub strike_in_range : (x : Expiry) (events : List Event) (k : ℕ) → AllInRange events → In (strikes_of x events) k → IsStrikeInRange k
-strike_in_range x [] k range h = elim h [ ]
-strike_in_range x (e ∷ events) k range h =
-    elim (in_with (listed_strike x e) (strikes_of x events) k h) [
-      | inl here ↦ listed_in_range x e k (range e (inl refl)) here
-      | inr later ↦ strike_in_range x events k (λ d at. range d (inr at)) later
-    ]
+pub few_strikes_listed : (x : Expiry) (events : List Event) → AreLawful events → length (strikes_of x events) ≤ ROWS_MAX
+few_strikes_listed x events h = few_after x [] events h (omega arith)

@@ -45,10 +45,12 @@ closest_pair_is_one rows p q rise h k =
 
 -- ---- there is one
 
-close_refl : (p : Pair) → IsAsClose p p
+-- a pair is as close as itself
+pub close_refl : (p : Pair) → IsAsClose p p
 close_refl p = inr (refl, omega arith)
 
-close_trans : (p q r : Pair) → IsAsClose p q → IsAsClose q r → IsAsClose p r
+-- of three pairs, the first as close as the second and the second as the third, the first is as close as the third
+pub close_trans : (p q r : Pair) → IsAsClose p q → IsAsClose q r → IsAsClose p r
 close_trans p q r (inl h) (inl k) = inl (omega arith)
 close_trans p q r (inl h) (inr k) = inl (omega arith)
 close_trans p q r (inr h) (inl k) = inl (omega arith)

@@ -28,8 +28,8 @@ level_is_selected rows level row h e =
 kept : (p : StrikeRow → Bool) (r : StrikeRow) (rows : List StrikeRow) → p r ≡ true → filter p (r ∷ rows) ≡ r ∷ filter p rows
 kept p r rows e = cond-true (p r) (r ∷ filter p rows) (filter p rows) e
 
-dropped : (p : StrikeRow → Bool) (r : StrikeRow) (rows : List StrikeRow) → p r ≡ false → filter p (r ∷ rows) ≡ filter p rows
-dropped p r rows e = cond-false (p r) (r ∷ filter p rows) (filter p rows) e
+filter_drops : (p : StrikeRow → Bool) (r : StrikeRow) (rows : List StrikeRow) → p r ≡ false → filter p (r ∷ rows) ≡ filter p rows
+filter_drops p r rows e = cond-false (p r) (r ∷ filter p rows) (filter p rows) e
 
 module _ (live : StrikeRow → Bool) (low high : ℕ) where
   -- the rows between, and whether of each two neighbours of them one is live
@@ -55,14 +55,14 @@ module _ (live : StrikeRow → Bool) (low high : ℕ) where
       let P : List StrikeRow → Type 0 = λ xs. is_unbroken (map live xs) ≡ true in
       elim (cases_Bool (inside r)) [
         | inl passes ↦ rest_unbroken (live r) (map live (filter inside rows)) (subst P (kept inside r rows passes) h)
-        | inr fails ↦ subst P (dropped inside r rows fails) h
+        | inr fails ↦ subst P (filter_drops inside r rows fails) h
       ]
 
   -- no row from `high` on is between
   none_inside : (rows : List StrikeRow) → All (λ r. high ≤ r.strike) rows → filter inside rows ≡ []
   none_inside [] h = refl
   none_inside (r ∷ rows) h =
-      dropped inside r rows (fails_above r (all_in (λ s. high ≤ s.strike) (r ∷ rows) r h (inl refl)))
+      filter_drops inside r rows (fails_above r (all_in (λ s. high ≤ s.strike) (r ∷ rows) r h (inl refl)))
       ∙ none_inside rows (λ k d a. h (suc k) d (omega arith))
 
   -- of two neighbours between, one is live
@@ -118,7 +118,7 @@ module _ (live : StrikeRow → Bool) (low high : ℕ) where
       let P : List StrikeRow → Type 0 = λ xs. is_unbroken (map live xs) ≡ true in
       elim (cases_Bool (inside r)) [
         | inl passes ↦ subst P (sym (kept inside r rows passes)) (kept_unbroken r rows rise said (ltb-true low r.strike (and_parts (ltb low r.strike) (ltb r.strike high) passes).0) rest)
-        | inr fails ↦ subst P (sym (dropped inside r rows fails)) rest
+        | inr fails ↦ subst P (sym (filter_drops inside r rows fails)) rest
       ]
 
 -- ---- the selection row by row

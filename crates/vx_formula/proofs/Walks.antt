@@ -17,7 +17,7 @@ abbrev pub no_row : StrikeRow
 no_row = record { strike = 0; put = record { there = false; live = false; half = 0 }; call = record { there = false; live = false; half = 0 } }
 
 -- two tests that hold together are equal
-same_tests : (a b : Bool) → (a ≡ true → b ≡ true) → (b ≡ true → a ≡ true) → a ≡ b
+pub same_tests : (a b : Bool) → (a ≡ true → b ≡ true) → (b ≡ true → a ≡ true) → a ≡ b
 same_tests true true f g = refl
 same_tests true false f g = sym (f refl)
 same_tests false true f g = g refl

@@ -12,7 +12,7 @@ use Rattle.vx_forward.specs.declared.level.K0Answer.TheVariants.{At, NoStrikeBel
 use Rattle.vx_formula.specs.StrikesByEnds.{IsLowestBetween}
 use Rattle.vx_forward.specs.Level.{HasNoneBetween, HasNoneAtMost, IsLevelRow, IsK0Answer}
 use Rattle.vx_forward.proofs.PairOrder.{some_row}
-use Rattle.vx_forward.proofs.Places.{row_listed, strikes_rise, strike_at}
+use Rattle.vx_forward.proofs.Places.{row_at_is_listed, strikes_rise_by_place, strike_at}
 
 -- rows in rising order have one place of a strike
 place_is_one : (rows : List StrikeRow) (p q : ℕ) (a b : StrikeRow) → StrikesRise rows → slice_get rows p ≡ Some a → slice_get rows q ≡ Some b → a.strike ≡ b.strike → p ≡ q
@@ -22,8 +22,8 @@ place_is_one rows p q a b rise h k e =
     elim (cases_order p q) [
       | inl same ↦ same
       | inr d ↦ elim d [
-        | inl less ↦ let l = strikes_rise rows rise p q less (slice_get_within rows q b k) in absurd (omega arith)
-        | inr more ↦ let l = strikes_rise rows rise q p more (slice_get_within rows p a h) in absurd (omega arith)
+        | inl less ↦ let l = strikes_rise_by_place rows rise p q less (slice_get_within rows q b k) in absurd (omega arith)
+        | inr more ↦ let l = strikes_rise_by_place rows rise q p more (slice_get_within rows p a h) in absurd (omega arith)
       ]
     ]
 
@@ -33,8 +33,8 @@ module _ (rows : List StrikeRow) (lo hi : ℤ) where
   same_strike p q a b h k =
       let g = h.greatest in
       let l = k.greatest in
-      let one = g.greatest b.strike (row_listed rows q b l.is_at) l.at_most in
-      let two = l.greatest a.strike (row_listed rows p a g.is_at) g.at_most in
+      let one = g.greatest b.strike (row_at_is_listed rows q b l.is_at) l.at_most in
+      let two = l.greatest a.strike (row_at_is_listed rows p a g.is_at) g.at_most in
       omega arith
 
   same_place : (p q : ℕ) (a b : StrikeRow) → StrikesRise rows → IsLevelRow rows lo hi p a → IsLevelRow rows lo hi q b → p ≡ q
@@ -47,7 +47,7 @@ module _ (rows : List StrikeRow) (lo hi : ℤ) where
   level_or_none p a h none =
       let g = h.greatest in
       let low = g.at_most in
-      let above = none a.strike (row_listed rows p a g.is_at) in
+      let above = none a.strike (row_at_is_listed rows p a g.is_at) in
       absurd (omega (arith, ints))
 
   between_or_none : (strike : ℕ) → IsLowestBetween rows lo hi strike → HasNoneBetween rows lo hi → ⊥

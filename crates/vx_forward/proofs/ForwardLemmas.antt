@@ -3,7 +3,6 @@ use Rattle.std.proofs.Common.{◌≡◌, ◌∙◌, ℕ, ◌+◌, ◌*◌, ◌^�
 use Rattle.std.specs.Prelude.{FitsSigned}
 use Rattle.std.proofs.lemmas.Int.{ints, fits_signed_from_abs, unsigned_abs-mul}
 use mir.Syntax.{w32, w64}
-use Rattle.std.proofs.Math.Pow.{pow_mono}
 use lib.Signed.{mag}
 use Rattle.vx_num.specs.Fraction.{Fraction, whole, ◌*ᶠ◌}
 use Rattle.vx_num.specs.Quotient.{IsFloor, IsCeiling}
@@ -14,16 +13,12 @@ use Rattle.vx_interval.specs.Membership.{IsMember}
 use Rattle.vx_interval.proofs.EndsLemmas.{unit_positive}
 use Rattle.vx_interval.proofs.Enclosures.{add_encloses, exact_encloses, scale_encloses}
 use Rattle.vx_interval.proofs.RoundingLemmas.{floor_found, ceiling_found}
-use Rattle.vx_interval.proofs.Ranges.{cast, cast_is}
+use Rattle.vx_interval.proofs.Ranges.{cast, cast_is, unit_at_most}
 use Rattle.vx_interval.proofs.Widths.{within, from_within, add_width, scale_width}
 use Rattle.vx_formula.specs.Pair.{Pair}
 use Rattle.vx_formula.specs.Forward.{forward_at}
 use Rattle.vx_forward.specs.Laws.{ForwardReachesEnds}
 use Rattle.vx_forward.specs.Forward.{IsForwardInRange, forward_interval}
-
-pub unit_at_most : (P : ℕ) → IsScale P → unit P ≤ℤ pos (2 ^ 62)
-unfolding unit
-unit_at_most P h = let m : 2 ^ P ≤ 2 ^ 62 = pow_mono h.1 in omega (arith, ints)
 
 -- 2^27 thousandths of a point, in units of 2^-P
 pub range_unit : (P : ℕ) → pos (2 ^ (P + 27)) ≡ pos (2 ^ 27) *ℤ unit P
@@ -78,8 +73,8 @@ strike_within P strike h =
     let u = unit_positive P in
     (mul_nonneg (pos strike) (unit P) (omega (arith, ints)) (omega (arith, ints)), mul_mono (pos strike) (pos 50000000) (unit P) (omega (arith, ints)) (omega (arith, ints)))
 
-pub strike_in_range : (P : ℕ) (strike : ℕ) → IsScale P → strike ≤ 50000000 → IsInRange (exact_ends P (pos strike))
-strike_in_range P strike s h =
+pub exact_strike_in_range : (P : ℕ) (strike : ℕ) → IsScale P → strike ≤ 50000000 → IsInRange (exact_ends P (pos strike))
+exact_strike_in_range P strike s h =
     let w = strike_within P strike h in
     let u = unit_at_most P s in
     record { low = omega (arith, ints, w); high = omega (arith, ints, w) }
@@ -137,20 +132,20 @@ end_is_small P z s l h =
     let m = range_unit P in
     within z (2 ^ 89) (omega (arith, ints)) (omega (arith, ints))
 
-pub floor_given : (a b a' b' n : ℤ) → a' ≡ a → b' ≡ b → pos 0 <ℤ b → mag n < 2 ^ 127 → IsFloor a' b' n → cast n ≡ floor_of a b
-floor_given a b a' b' n p q h f k =
+pub floor_cast_is : (a b a' b' n : ℤ) → a' ≡ a → b' ≡ b → pos 0 <ℤ b → mag n < 2 ^ 127 → IsFloor a' b' n → cast n ≡ floor_of a b
+floor_cast_is a b a' b' n p q h f k =
     let P : ℤ → Type 0 = λ x. IsFloor x b' n in
     let Q : ℤ → Type 0 = λ x. IsFloor a x n in
     cast_is n (floor_of a b) f (floor_found a b n h (subst Q q (subst P p k)))
 
-pub ceiling_given : (a b a' b' n : ℤ) → a' ≡ a → b' ≡ b → pos 0 <ℤ b → mag n < 2 ^ 127 → IsCeiling a' b' n → cast n ≡ ceiling_of a b
-ceiling_given a b a' b' n p q h f k =
+pub ceiling_cast_is : (a b a' b' n : ℤ) → a' ≡ a → b' ≡ b → pos 0 <ℤ b → mag n < 2 ^ 127 → IsCeiling a' b' n → cast n ≡ ceiling_of a b
+ceiling_cast_is a b a' b' n p q h f k =
     let P : ℤ → Type 0 = λ x. IsCeiling x b' n in
     let Q : ℤ → Type 0 = λ x. IsCeiling a x n in
     cast_is n (ceiling_of a b) f (ceiling_found a b n h (subst Q q (subst P p k)))
 
-pub small_given : (z z' : ℤ) → z' ≡ z → nat_abs z ≤ 2 ^ 89 → nat_abs z' ≤ 2 ^ 89
-small_given z z' e h = let P : ℤ → Type 0 = λ x. nat_abs x ≤ 2 ^ 89 in subst P (sym e) h
+pub small_end_given : (z z' : ℤ) → z' ≡ z → nat_abs z ≤ 2 ^ 89 → nat_abs z' ≤ 2 ^ 89
+small_end_given z z' e h = let P : ℤ → Type 0 = λ x. nat_abs x ≤ 2 ^ 89 in subst P (sym e) h
 
 pub positive_given : (z z' : ℤ) → z' ≡ z → pos 0 <ℤ z → pos 0 <ℤ z'
 positive_given z z' e h = let P : ℤ → Type 0 = λ x. pos 0 <ℤ x in subst P (sym e) h

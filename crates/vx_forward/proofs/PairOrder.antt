@@ -1,11 +1,12 @@
 -- The order in which pairs are taken is reflexive and transitive, and the best row's pair is the closest pair.
-use Rattle.std.proofs.Common.{◌≡◌, ℕ, true, List, [], ◌∷◌, length, get_or, slice_get, Option, Some, None, IfSome, IfNone, IsSomeAnd, All, false, refl, ◌∙◌, subst, inl, inr, arith, rules}
+use Rattle.std.proofs.Common.{◌≡◌, ℕ, true, List, [], ◌∷◌, length, get_or, slice_get, Option, Some, None, IfSome, IfNone, IsSomeAnd, All, false, refl, subst, inl, rules}
 use Rattle.std.specs.List.{filter}
 use Rattle.std.proofs.lemmas.Option.{slice_get-get_or}
 use Rattle.vx_symbol.specs.declared.rows.Price.{Price}
 use Rattle.vx_symbol.specs.declared.rows.StrikeRow.{StrikeRow}
 use Rattle.vx_formula.specs.Pair.{Pair, pair_of, is_both_live, live_pairs, IsAsClose, IsClosestPair}
 use Rattle.vx_formula.proofs.Lists.{In, in_from_contains, contains_from_in, in_map, map_in, in_filter, filter_in, all_from_in}
+use Rattle.vx_formula.proofs.PairLemmas.{close_refl, close_trans}
 use Rattle.vx_clock.proofs.Best.{IsBestSoFar, none_counts, best_is_there, best_comes_first}
 
 -- the row's put and call are both live
@@ -22,15 +23,6 @@ some_price = record { there = false; live = false; half = 0 }
 
 abbrev pub some_row : StrikeRow
 some_row = record { strike = 0; put = some_price; call = some_price }
-
-close_refl : (p : Pair) → IsAsClose p p
-close_refl p = inr (refl, omega arith)
-
-close_trans : (p q r : Pair) → IsAsClose p q → IsAsClose q r → IsAsClose p r
-close_trans p q r (inl h) (inl k) = inl (omega arith)
-close_trans p q r (inl h) (inr k) = inl (omega arith)
-close_trans p q r (inr h) (inl k) = inl (omega arith)
-close_trans p q r (inr h) (inr k) = inr (h.0 ∙ k.0, omega arith)
 
 pub taken_reflexive : (a : StrikeRow) → IsTakenBefore a a
 taken_reflexive a = close_refl (pair_of a)

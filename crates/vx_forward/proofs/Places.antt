@@ -36,8 +36,8 @@ place_listed rows k h =
     contains_from_in (strikes rows) (strike_at rows k)
     (map_in (λ (row : StrikeRow). row.strike) rows (get_or rows k some_row) (in_from_contains rows (get_or rows k some_row) (Contains-get_or rows k some_row h)))
 
-pub row_listed : (rows : List StrikeRow) (k : ℕ) (row : StrikeRow) → slice_get rows k ≡ Some row → IsListed rows row.strike
-row_listed rows k row h =
+pub row_at_is_listed : (rows : List StrikeRow) (k : ℕ) (row : StrikeRow) → slice_get rows k ≡ Some row → IsListed rows row.strike
+row_at_is_listed rows k row h =
     subst (IsListed rows) (ap (λ (r : StrikeRow). r.strike) (get_or_from_slice_get rows k row some_row h)) (place_listed rows k (slice_get_within rows k row h))
 
 -- what holds of the strike at each place holds of each listed strike
@@ -46,15 +46,15 @@ for_listed rows P h strike listed =
     let at = listed_place rows strike listed in
     subst P at.2 (h at.0 at.1)
 
-pub strikes_rise : (rows : List StrikeRow) → StrikesRise rows → (i j : ℕ) → i < j → j < length rows → strike_at rows i < strike_at rows j
-strikes_rise rows rise i j h k = rise i j some_row h k
+pub strikes_rise_by_place : (rows : List StrikeRow) → StrikesRise rows → (i j : ℕ) → i < j → j < length rows → strike_at rows i < strike_at rows j
+strikes_rise_by_place rows rise i j h k = rise i j some_row h k
 
 pub strikes_do_not_fall : (rows : List StrikeRow) → StrikesRise rows → (i j : ℕ) → i ≤ j → j < length rows → strike_at rows i ≤ strike_at rows j
 strikes_do_not_fall rows rise i j h k =
     elim (cases_order i j) [
       | inl e ↦ let same : strike_at rows i ≡ strike_at rows j = ap (strike_at rows) e in omega arith
       | inr d ↦ elim d [
-        | inl less ↦ let l = strikes_rise rows rise i j less k in omega arith
+        | inl less ↦ let l = strikes_rise_by_place rows rise i j less k in omega arith
         | inr more ↦ absurd (omega arith)
       ]
     ]
@@ -116,7 +116,7 @@ module _ (rows : List StrikeRow) (rise : StrikesRise rows) (lo : ℤ) (place : �
   -- the strike at the place is the lowest above the level
   pub has_one_above : (level : ℕ) → level + 1 ≡ place → place < length rows → strike_at rows place ≤ 2 * strike_at rows level → ¬ HasNoneAbove rows (strike_at rows level)
   has_one_above level e there twice none =
-      let a = none (strike_at rows place) (place_listed rows place there) (strikes_rise rows rise level place (omega arith) there) in
+      let a = none (strike_at rows place) (place_listed rows place there) (strikes_rise_by_place rows rise level place (omega arith) there) in
       omega arith
 
   pub has_none_above : (level : ℕ) → level + 1 ≡ place → place ≤ length rows → (place < length rows → 2 * strike_at rows level < strike_at rows place) → HasNoneAbove rows (strike_at rows level)

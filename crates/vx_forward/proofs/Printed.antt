@@ -7,7 +7,7 @@ use Rattle.vx_interval.specs.Rounding.{floor_of, ceiling_of}
 use Rattle.vx_interval.specs.Ends.{Ends, unit}
 use Rattle.vx_interval.specs.Membership.{IsMember}
 use Rattle.vx_interval.proofs.EndsLemmas.{unit_positive}
-use Rattle.vx_interval.proofs.Enclosures.{at_least, at_most}
+use Rattle.vx_interval.proofs.Enclosures.{member_at_least, member_at_most}
 use Rattle.vx_interval.proofs.RoundingLemmas.{floor_of_is, ceiling_of_is}
 use Rattle.vx_symbol.specs.declared.rows.StrikeRow.{StrikeRow}
 use Rattle.vx_formula.specs.declared.limits.TheConstants.{FORWARD_UNITS}
@@ -16,7 +16,7 @@ use Rattle.vx_forward.specs.declared.level.K0Answer.{K0Answer}
 use Rattle.vx_forward.specs.declared.level.K0Answer.TheVariants.{At, NoStrikeBelow, NoStrikeAbove, Straddle}
 use Rattle.vx_forward.specs.Forward.{printed_forward}
 use Rattle.vx_forward.specs.Level.{in_units, HasNoneBetween, IsLevelRow, IsK0Answer, SaysOfForward}
-use Rattle.vx_forward.proofs.Places.{row_listed}
+use Rattle.vx_forward.proofs.Places.{row_at_is_listed}
 
 -- ---- the ends and a member t / n: lo / 10^9 ≤ t / n ≤ hi / 10^9, multiplied out
 
@@ -32,7 +32,7 @@ module _ (P : ℕ) (f : Ends) (x : Fraction) (m : IsMember P f x) where
       let lo : ℤ = floor_of (pos FORWARD_UNITS *ℤ f.lo) u in
       let floor = floor_of_is (pos FORWARD_UNITS *ℤ f.lo) u h in
       let scaled = mul_mono (lo *ℤ u) (pos FORWARD_UNITS *ℤ f.lo) n bottom floor.at_most in
-      let member = mul_mono_left (f.lo *ℤ n) (x.top *ℤ u) (pos FORWARD_UNITS) (omega (arith, ints)) (at_least P f x m) in
+      let member = mul_mono_left (f.lo *ℤ n) (x.top *ℤ u) (pos FORWARD_UNITS) (omega (arith, ints)) (member_at_least P f x m) in
       mul_cancel (lo *ℤ n) (pos FORWARD_UNITS *ℤ x.top) u h
       (omega (arith, ints, scaled, member, mul_right_comm lo u n, mul_assoc (pos FORWARD_UNITS) f.lo n, mul_assoc (pos FORWARD_UNITS) x.top u))
 
@@ -44,7 +44,7 @@ module _ (P : ℕ) (f : Ends) (x : Fraction) (m : IsMember P f x) where
       let hi : ℤ = ceiling_of (pos FORWARD_UNITS *ℤ f.hi) u in
       let ceiling = ceiling_of_is (pos FORWARD_UNITS *ℤ f.hi) u h in
       let scaled = mul_mono (pos FORWARD_UNITS *ℤ f.hi) (hi *ℤ u) n bottom ceiling.at_least in
-      let member = mul_mono_left (x.top *ℤ u) (f.hi *ℤ n) (pos FORWARD_UNITS) (omega (arith, ints)) (at_most P f x m) in
+      let member = mul_mono_left (x.top *ℤ u) (f.hi *ℤ n) (pos FORWARD_UNITS) (omega (arith, ints)) (member_at_most P f x m) in
       mul_cancel (pos FORWARD_UNITS *ℤ x.top) (hi *ℤ n) u h
       (omega (arith, ints, scaled, member, mul_right_comm hi u n, mul_assoc (pos FORWARD_UNITS) f.hi n, mul_assoc (pos FORWARD_UNITS) x.top u))
 
@@ -84,7 +84,7 @@ level_holds P rows f x place row m h =
     let hi : ℤ = (printed_forward P f).1 in
     let g = h.greatest in
     record {
-      is_listed = row_listed rows place row g.is_at;
+      is_listed = row_at_is_listed rows place row g.is_at;
       at_most = strike_at_most P f x m row.strike g.at_most;
       others_above = λ other listed above.
           strike_above P f x m other (past_high rows lo hi other h.none_between listed

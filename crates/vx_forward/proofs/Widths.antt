@@ -14,9 +14,9 @@ use Rattle.vx_formula.specs.Pair.{Pair}
 use Rattle.vx_forward.specs.Forward.{forward_interval, printed_forward}
 use Rattle.vx_forward.proofs.ForwardLemmas.{forward_width}
 
-unit_at_least : (P : ℕ) → 60 ≤ P → pos (2 ^ 60) ≤ℤ unit P
+unit_at_least_sixty : (P : ℕ) → 60 ≤ P → pos (2 ^ 60) ≤ℤ unit P
 unfolding unit
-unit_at_least P h = let m : 2 ^ 60 ≤ 2 ^ P = pow_mono h in omega (arith, ints)
+unit_at_least_sixty P h = let m : 2 ^ 60 ≤ 2 ^ P = pow_mono h in omega (arith, ints)
 
 -- 5 * 10,000,000 * 32 at most
 spread_is_small : (pair : Pair) (e : Ends) → nat_abs pair.d ≤ 10000000 → e.lo ≤ℤ e.hi → width e ≤ℤ pos 32 → (pos (5 * nat_abs pair.d) *ℤ width e) ≤ℤ pos 1600000000
@@ -30,7 +30,7 @@ ends_are_near P pair e s h q w =
     let f : Ends = forward_interval P pair e in
     let u : ℤ = unit P in
     let p = unit_positive P in
-    let big = unit_at_least P s in
+    let big = unit_at_least_sixty P s in
     let a : ℤ = pos FORWARD_UNITS *ℤ f.lo in
     let b : ℤ = pos FORWARD_UNITS *ℤ f.hi in
     let lo : ℤ = floor_of a u in

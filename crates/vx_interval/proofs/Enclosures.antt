@@ -13,14 +13,14 @@ use Rattle.vx_interval.proofs.RoundingLemmas.{floor_of_is, ceiling_of_is}
 -- ---- membership by whole numbers
 
 -- a member is at least the low end, by cross multiplication
-pub at_least : (P : ℕ) (x : Ends) (f : Fraction) → IsMember P x f → (x.lo *ℤ pos f.bottom) ≤ℤ (f.top *ℤ unit P)
+pub member_at_least : (P : ℕ) (x : Ends) (f : Fraction) → IsMember P x f → (x.lo *ℤ pos f.bottom) ≤ℤ (f.top *ℤ unit P)
 unfolding unit
-at_least P x f m = m.above
+member_at_least P x f m = m.above
 
 -- and at most the high end
-pub at_most : (P : ℕ) (x : Ends) (f : Fraction) → IsMember P x f → (f.top *ℤ unit P) ≤ℤ (x.hi *ℤ pos f.bottom)
+pub member_at_most : (P : ℕ) (x : Ends) (f : Fraction) → IsMember P x f → (f.top *ℤ unit P) ≤ℤ (x.hi *ℤ pos f.bottom)
 unfolding unit
-at_most P x f m = m.below
+member_at_most P x f m = m.below
 
 -- what lies between the ends by cross multiplication is a member
 pub member : (P : ℕ) (x : Ends) (f : Fraction) → 1 ≤ f.bottom → (x.lo *ℤ pos f.bottom) ≤ℤ (f.top *ℤ unit P) → (f.top *ℤ unit P) ≤ℤ (x.hi *ℤ pos f.bottom) → IsMember P x f
@@ -58,8 +58,8 @@ top_difference t1 t2 n1 n2 u = rw (is_difference t1, is_difference t2, is_differ
 pub add_encloses : (P : ℕ) (x y : Ends) (f g : Fraction) → IsMember P x f → IsMember P y g → IsMember P (add_ends x y) (f +ᶠ g)
 add_encloses P x y f g mf mg =
     member P (add_ends x y) (f +ᶠ g) (mul-pos mf.proper mg.proper)
-    (sum_at_least x.lo y.lo f.top g.top (unit P) (pos f.bottom) (pos g.bottom) (natural_nonneg f.bottom) (natural_nonneg g.bottom) (at_least P x f mf) (at_least P y g mg))
-    (sum_at_most x.hi y.hi f.top g.top (unit P) (pos f.bottom) (pos g.bottom) (natural_nonneg f.bottom) (natural_nonneg g.bottom) (at_most P x f mf) (at_most P y g mg))
+    (sum_at_least x.lo y.lo f.top g.top (unit P) (pos f.bottom) (pos g.bottom) (natural_nonneg f.bottom) (natural_nonneg g.bottom) (member_at_least P x f mf) (member_at_least P y g mg))
+    (sum_at_most x.hi y.hi f.top g.top (unit P) (pos f.bottom) (pos g.bottom) (natural_nonneg f.bottom) (natural_nonneg g.bottom) (member_at_most P x f mf) (member_at_most P y g mg))
 
 -- the difference of two intervals has the differences of their members
 pub sub_encloses : (P : ℕ) (x y : Ends) (f g : Fraction) → IsMember P x f → IsMember P y g → IsMember P (sub_ends x y) (f -ᶠ g)
@@ -68,10 +68,10 @@ sub_encloses P x y f g mf mg =
     let n2 : ℤ = pos g.bottom in
     let p1 : pos 0 ≤ℤ n1 = natural_nonneg f.bottom in
     let p2 : pos 0 ≤ℤ n2 = natural_nonneg g.bottom in
-    let fl = mul_mono (x.lo *ℤ n1) (f.top *ℤ unit P) n2 p2 (at_least P x f mf) in
-    let fh = mul_mono (f.top *ℤ unit P) (x.hi *ℤ n1) n2 p2 (at_most P x f mf) in
-    let gl = mul_mono (y.lo *ℤ n2) (g.top *ℤ unit P) n1 p1 (at_least P y g mg) in
-    let gh = mul_mono (g.top *ℤ unit P) (y.hi *ℤ n2) n1 p1 (at_most P y g mg) in
+    let fl = mul_mono (x.lo *ℤ n1) (f.top *ℤ unit P) n2 p2 (member_at_least P x f mf) in
+    let fh = mul_mono (f.top *ℤ unit P) (x.hi *ℤ n1) n2 p2 (member_at_most P x f mf) in
+    let gl = mul_mono (y.lo *ℤ n2) (g.top *ℤ unit P) n1 p1 (member_at_least P y g mg) in
+    let gh = mul_mono (g.top *ℤ unit P) (y.hi *ℤ n2) n1 p1 (member_at_most P y g mg) in
     member P (sub_ends x y) (f -ᶠ g) (mul-pos mf.proper mg.proper)
     (omega (arith, ints, fl, gh, difference_of x.lo y.hi n1 n2, top_difference f.top g.top n1 n2 (unit P)))
     (omega (arith, ints, fh, gl, difference_of x.hi y.lo n1 n2, top_difference f.top g.top n1 n2 (unit P)))
@@ -98,15 +98,15 @@ one_bottom z n = rw (one-mul n) refl
 -- a multiple of an interval has the multiples of its members
 pub scale_encloses : (P : ℕ) (x : Ends) (k : ℤ) (f : Fraction) → IsMember P x f → IsMember P (scale_ends x k) (whole k *ᶠ f)
 scale_encloses P x (pos k) f m =
-    let l = mul_mono_left (x.lo *ℤ pos f.bottom) (f.top *ℤ unit P) (pos k) (natural_nonneg k) (at_least P x f m) in
-    let h = mul_mono_left (f.top *ℤ unit P) (x.hi *ℤ pos f.bottom) (pos k) (natural_nonneg k) (at_most P x f m) in
+    let l = mul_mono_left (x.lo *ℤ pos f.bottom) (f.top *ℤ unit P) (pos k) (natural_nonneg k) (member_at_least P x f m) in
+    let h = mul_mono_left (f.top *ℤ unit P) (x.hi *ℤ pos f.bottom) (pos k) (natural_nonneg k) (member_at_most P x f m) in
     member P (scale_ends x (pos k)) (whole (pos k) *ᶠ f) (omega (arith, m.proper))
     (omega (arith, ints, l, one_bottom (pos k *ℤ x.lo) f.bottom, mul_assoc (pos k) x.lo (pos f.bottom), mul_assoc (pos k) f.top (unit P)))
     (omega (arith, ints, h, one_bottom (pos k *ℤ x.hi) f.bottom, mul_assoc (pos k) x.hi (pos f.bottom), mul_assoc (pos k) f.top (unit P)))
 scale_encloses P x (negsuc k) f m =
     let low : negsuc k ≤ℤ pos 0 = omega (arith, ints) in
-    let l = mul_anti_left (f.top *ℤ unit P) (x.hi *ℤ pos f.bottom) (negsuc k) low (at_most P x f m) in
-    let h = mul_anti_left (x.lo *ℤ pos f.bottom) (f.top *ℤ unit P) (negsuc k) low (at_least P x f m) in
+    let l = mul_anti_left (f.top *ℤ unit P) (x.hi *ℤ pos f.bottom) (negsuc k) low (member_at_most P x f m) in
+    let h = mul_anti_left (x.lo *ℤ pos f.bottom) (f.top *ℤ unit P) (negsuc k) low (member_at_least P x f m) in
     member P (scale_ends x (negsuc k)) (whole (negsuc k) *ᶠ f) (omega (arith, m.proper))
     (omega (arith, ints, l, one_bottom (negsuc k *ℤ x.hi) f.bottom, mul_assoc (negsuc k) x.hi (pos f.bottom), mul_assoc (negsuc k) f.top (unit P)))
     (omega (arith, ints, h, one_bottom (negsuc k *ℤ x.lo) f.bottom, mul_assoc (negsuc k) x.lo (pos f.bottom), mul_assoc (negsuc k) f.top (unit P)))
@@ -172,10 +172,10 @@ mul_encloses P x y f g mf mg =
     let a = least_at_most ll lh hl hh in
     let b = greatest_at_least ll lh hl hh in
     let low = corners_lower (least *ℤ (n1 *ℤ n2)) (x.lo *ℤ n1) (x.hi *ℤ n1) (y.lo *ℤ n2) (y.hi *ℤ n2) (f.top *ℤ u) (g.top *ℤ u)
-    (at_least P x f mf) (at_most P x f mf) (at_least P y g mg) (at_most P y g mg)
+    (member_at_least P x f mf) (member_at_most P x f mf) (member_at_least P y g mg) (member_at_most P y g mg)
     (corner_low least x.lo y.lo n1 n2 p a.0) (corner_low least x.lo y.hi n1 n2 p a.1) (corner_low least x.hi y.lo n1 n2 p a.2) (corner_low least x.hi y.hi n1 n2 p a.3) in
     let high = corners_upper (greatest *ℤ (n1 *ℤ n2)) (x.lo *ℤ n1) (x.hi *ℤ n1) (y.lo *ℤ n2) (y.hi *ℤ n2) (f.top *ℤ u) (g.top *ℤ u)
-    (at_least P x f mf) (at_most P x f mf) (at_least P y g mg) (at_most P y g mg)
+    (member_at_least P x f mf) (member_at_most P x f mf) (member_at_least P y g mg) (member_at_most P y g mg)
     (corner_high greatest x.lo y.lo n1 n2 p b.0) (corner_high greatest x.lo y.hi n1 n2 p b.1) (corner_high greatest x.hi y.lo n1 n2 p b.2) (corner_high greatest x.hi y.hi n1 n2 p b.3) in
     let floor = floor_of_is least u hu in
     let ceiling = ceiling_of_is greatest u hu in
@@ -194,8 +194,8 @@ over_encloses P x (pos d) f h m =
     let ceiling = ceiling_of_is x.hi (pos d) h in
     let low = mul_mono (floor_of x.lo (pos d) *ℤ pos d) x.lo n (natural_nonneg f.bottom) floor.at_most in
     let high = mul_mono x.hi (ceiling_of x.hi (pos d) *ℤ pos d) n (natural_nonneg f.bottom) ceiling.at_least in
-    let l = at_least P x f m in
-    let k = at_most P x f m in
+    let l = member_at_least P x f m in
+    let k = member_at_most P x f m in
     member P (over_ends x (pos d)) (f /ᶠ d) (mul-pos m.proper (omega (arith, ints)))
     (omega (arith, ints, low, l, mul_right_comm (floor_of x.lo (pos d)) (pos d) n, mul_assoc (floor_of x.lo (pos d)) n (pos d)))
     (omega (arith, ints, high, k, mul_right_comm (ceiling_of x.hi (pos d)) (pos d) n, mul_assoc (ceiling_of x.hi (pos d)) n (pos d)))
@@ -214,8 +214,8 @@ rescale_encloses P R x f m =
     let ceiling = ceiling_of_is (x.hi *ℤ r) u hu in
     let low = mul_mono (l *ℤ u) (x.lo *ℤ r) n (natural_nonneg f.bottom) floor.at_most in
     let high = mul_mono (x.hi *ℤ r) (h *ℤ u) n (natural_nonneg f.bottom) ceiling.at_least in
-    let bottom = mul_mono (x.lo *ℤ n) (f.top *ℤ u) r hr (at_least P x f m) in
-    let top = mul_mono (f.top *ℤ u) (x.hi *ℤ n) r hr (at_most P x f m) in
+    let bottom = mul_mono (x.lo *ℤ n) (f.top *ℤ u) r hr (member_at_least P x f m) in
+    let top = mul_mono (f.top *ℤ u) (x.hi *ℤ n) r hr (member_at_most P x f m) in
     member R (rescale_ends P R x) f m.proper
     (mul_cancel (l *ℤ n) (f.top *ℤ r) u hu (omega (arith, ints, low, bottom, mul_right_comm l u n, mul_right_comm x.lo r n, mul_right_comm f.top u r)))
     (mul_cancel (f.top *ℤ r) (h *ℤ n) u hu (omega (arith, ints, high, top, mul_right_comm h u n, mul_right_comm x.hi r n, mul_right_comm f.top u r)))

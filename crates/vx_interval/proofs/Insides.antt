@@ -9,7 +9,7 @@ use Rattle.vx_interval.specs.Membership.{units}
 use Rattle.vx_interval.specs.Laws.{IsInside, IsOrdered, MembersStayInWider, EqualValuesAreMembers, SumsLieInside, DifferencesLieInside, MultiplesLieInside, QuotientsLieInside, RescaledLieInside, ProductsLieInside, SquaresLieInside}
 use Rattle.vx_interval.proofs.EndsLemmas.{unit_positive}
 use Rattle.vx_interval.proofs.RoundingLemmas.{floor_of_is, ceiling_of_is}
-use Rattle.vx_interval.proofs.Enclosures.{at_least, at_most, member, least_at_most, greatest_at_least, least_above, greatest_below}
+use Rattle.vx_interval.proofs.Enclosures.{member_at_least, member_at_most, member, least_at_most, greatest_at_least, least_above, greatest_below}
 use Rattle.vx_interval.proofs.Squares.{square_above, square_below, least_if_positive, least_if_negative, least_across_zero, least_nonneg, greatest_is_at_most}
 
 -- ---- members
@@ -19,8 +19,8 @@ pub members_stay : MembersStayInWider
 members_stay P x y f i m =
     let n : ℤ = pos f.bottom in
     let p : pos 0 ≤ℤ n = omega (arith, ints) in
-    let low = at_least P x f m in
-    let high = at_most P x f m in
+    let low = member_at_least P x f m in
+    let high = member_at_most P x f m in
     member P y f m.proper
     (omega (arith, ints, low, mul_mono y.lo x.lo n p i.low))
     (omega (arith, ints, high, mul_mono x.hi y.hi n p i.high))

@@ -40,6 +40,11 @@ pub unit_at_least : (P : ℕ) → IsScale P → pos (2 ^ 40) ≤ℤ unit P
 unfolding unit
 unit_at_least P h = let m : 2 ^ 40 ≤ 2 ^ P = pow_mono h.0 in omega (arith, ints)
 
+-- and at most 2^62
+pub unit_at_most : (P : ℕ) → IsScale P → unit P ≤ℤ pos (2 ^ 62)
+unfolding unit
+unit_at_most P h = let m : 2 ^ P ≤ 2 ^ 62 = pow_mono h.1 in omega (arith, ints)
+
 -- ---- rounded ends
 
 -- rounded quotients of the same numbers are the same
@@ -291,10 +296,10 @@ pub cast_is : (z z' : ℤ) → mag z < 2 ^ 127 → z ≡ z' → cast z ≡ z'
 cast_is z z' f e = to_z-of_z {w = w128} (record { sfits = f }) ∙ e
 
 -- two ends that keep their values are in range as they were
-pub pair_in_range : (a b a' b' : ℤ) → mag a < 2 ^ 127 → mag b < 2 ^ 127 → a ≡ a' → b ≡ b'
+pub passed_ends_in_range : (a b a' b' : ℤ) → mag a < 2 ^ 127 → mag b < 2 ^ 127 → a ≡ a' → b ≡ b'
     → (neg_ℤ (pos (2 ^ 110)) ≤ℤ a') × (a' ≤ℤ b') × (b' ≤ℤ pos (2 ^ 110))
     → (cast a ≤ℤ cast b) × IsInRange (record { lo = cast a; hi = cast b })
-pair_in_range a b a' b' f g p q r =
+passed_ends_in_range a b a' b' f g p q r =
     let x = cast_is a a' f p in
     let y = cast_is b b' g q in
     let low = r.0 in

@@ -9,7 +9,7 @@ use Rattle.vx_interval.specs.Ends.{Ends, unit, least_square, greatest_square, sq
 use Rattle.vx_interval.specs.Membership.{IsMember}
 use Rattle.vx_interval.proofs.EndsLemmas.{unit_positive}
 use Rattle.vx_interval.proofs.RoundingLemmas.{floor_of_is, ceiling_of_is}
-use Rattle.vx_interval.proofs.Enclosures.{at_least, at_most, member, product_low, product_high}
+use Rattle.vx_interval.proofs.Enclosures.{member_at_least, member_at_most, member, product_low, product_high}
 
 -- an interval with 0 in it has the least square 0
 pub least_across_zero : (x : Ends) → x.lo ≤ℤ pos 0 → pos 0 ≤ℤ x.hi → least_square x ≡ pos 0
@@ -93,8 +93,8 @@ square_encloses P x f m =
     let floor = floor_of_is (least_square x) u hu in
     let ceiling = ceiling_of_is (greatest_square x) u hu in
     member P (square_ends P x) (f *ᶠ f) (mul-pos m.proper m.proper)
-    (product_low (floor_of (least_square x) u) (least_square x) f.top f.top u (n *ℤ n) hu p floor.at_most (square_above x n (f.top *ℤ u) hn (at_least P x f m) (at_most P x f m)))
-    (product_high (ceiling_of (greatest_square x) u) (greatest_square x) f.top f.top u (n *ℤ n) hu p ceiling.at_least (square_below x n (f.top *ℤ u) (at_least P x f m) (at_most P x f m)))
+    (product_low (floor_of (least_square x) u) (least_square x) f.top f.top u (n *ℤ n) hu p floor.at_most (square_above x n (f.top *ℤ u) hn (member_at_least P x f m) (member_at_most P x f m)))
+    (product_high (ceiling_of (greatest_square x) u) (greatest_square x) f.top f.top u (n *ℤ n) hu p ceiling.at_least (square_below x n (f.top *ℤ u) (member_at_least P x f m) (member_at_most P x f m)))
 
 -- the least square is not negative
 pub least_nonneg : (x : Ends) → pos 0 ≤ℤ least_square x

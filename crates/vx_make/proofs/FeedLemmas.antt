@@ -26,8 +26,8 @@ pub text_none : (old : List ℕ) (part : ℕ → List Event) → old ≡ old ++ 
 text_none old part = rw (for_each_none part) (sym (append-nil old))
 
 -- one more part is written
-pub text_more : (old now new : List ℕ) (part : ℕ → List Event) (n : ℕ) → now ≡ old ++ text_of_events (for_each n part) → new ≡ now ++ text_of_events (part n) → new ≡ old ++ text_of_events (for_each (n + 1) part)
-text_more old now new part n so_far one =
+pub text_one_part_more : (old now new : List ℕ) (part : ℕ → List Event) (n : ℕ) → now ≡ old ++ text_of_events (for_each n part) → new ≡ now ++ text_of_events (part n) → new ≡ old ++ text_of_events (for_each (n + 1) part)
+text_one_part_more old now new part n so_far one =
     one ∙ ap (λ t. t ++ text_of_events (part n)) so_far ∙ append_assoc old (text_of_events (for_each n part)) (text_of_events (part n))
     ∙ ap (λ t. old ++ t) (sym (texts-append (for_each n part) (part n)) ∙ ap text_of_events (sym (for_each_more n part)))
 
@@ -50,7 +50,7 @@ state_more draws n first now new so_far one =
 pub text_more_from : (old now new : List ℕ) (at : ℕ → ℕ → List Event) (draws n first state : ℕ) → now ≡ old ++ text_of_events (for_each n (λ i. at i (state_after (draws * i) first))) → state ≡ state_after (draws * n) first → new ≡ now ++ text_of_events (at n state)
     → new ≡ old ++ text_of_events (for_each (n + 1) (λ i. at i (state_after (draws * i) first)))
 text_more_from old now new at draws n first state so_far steps one =
-    text_more old now new (λ i. at i (state_after (draws * i) first)) n so_far (one ∙ ap (λ s. now ++ text_of_events (at n s)) steps)
+    text_one_part_more old now new (λ i. at i (state_after (draws * i) first)) n so_far (one ∙ ap (λ s. now ++ text_of_events (at n s)) steps)
 
 -- all parts are written
 pub text_all : (old new : List ℕ) (part : ℕ → List Event) (n all : ℕ) → n ≡ all → new ≡ old ++ text_of_events (for_each n part) → new ≡ old ++ text_of_events (for_each all part)

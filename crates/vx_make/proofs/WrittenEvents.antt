@@ -146,9 +146,9 @@ no_lf (b ∷ line) plain =
 
 -- ---- the lines of a text of events
 
-text_is : (events : List Event) → text_of_events events ≡ text_of (map event_line events)
-text_is [] = refl
-text_is (e ∷ events) = append_assoc (event_line e) (line_feed ∷ []) (text_of_events events) ∙ ap (λ t. event_line e ++ line_feed ∷ t) (text_is events)
+text_is_lines : (events : List Event) → text_of_events events ≡ text_of (map event_line events)
+text_is_lines [] = refl
+text_is_lines (e ∷ events) = append_assoc (event_line e) (line_feed ∷ []) (text_of_events events) ∙ ap (λ t. event_line e ++ line_feed ∷ t) (text_is_lines events)
 
 are_lines : (before events : List Event) → AreLawfulAfter before events → All (IsLine 256) (map event_line events)
 are_lines before [] h = All-nil (IsLine 256)
@@ -162,7 +162,7 @@ are_lines before (e ∷ events) h =
 pub lines_are_of_events : LinesAreOfEvents
 lines_are_of_events events h =
     cut_is_lines 256 (text_of_events events) (record { lines = map event_line events; ending = at_end })
-    (record { rest = []; whole = text_is events ∙ sym (append-nil (text_of (map event_line events))); lines = are_lines [] events h; ends = refl })
+    (record { rest = []; whole = text_is_lines events ∙ sym (append-nil (text_of (map event_line events))); lines = are_lines [] events h; ends = refl })
 
 -- ---- the reading of a text of events
 

@@ -172,12 +172,12 @@ clear_tick_is_published days window events line time facts (Refused reason which
     none refused.0 (refusal_of_facts days window events line time facts (Refused reason which) is refused.0 refused.2).holds
 
 -- a refusal at the place of the figure or later is that of a negative variance
-late_is_negative : (reason : TickReason) → cents_undecided_place ≤ tick_place reason → reason ≡ negative_variance
-late_is_negative no_near_term late = absurd (omega (arith, late))
-late_is_negative no_next_term late = absurd (omega (arith, late))
-late_is_negative (of_near reason) late = let r = place_range reason in absurd (omega (arith, late, r.1))
-late_is_negative (of_next reason) late = let r = place_range reason in absurd (omega (arith, late, r.1))
-late_is_negative negative_variance late = refl
+late_tick_is_negative : (reason : TickReason) → cents_undecided_place ≤ tick_place reason → reason ≡ negative_variance
+late_tick_is_negative no_near_term late = absurd (omega (arith, late))
+late_tick_is_negative no_next_term late = absurd (omega (arith, late))
+late_tick_is_negative (of_near reason) late = let r = place_range reason in absurd (omega (arith, late, r.1))
+late_tick_is_negative (of_next reason) late = let r = place_range reason in absurd (omega (arith, late, r.1))
+late_tick_is_negative negative_variance late = refl
 
 -- no refusal stands at the place of an undecided forward
 not_near_place : (reason : TickReason) → near_undecided_place ≤ tick_place reason → near_undecided_place < tick_place reason
@@ -209,7 +209,7 @@ first_refusal_is_answered days window events line time facts (UndecidedCents lo 
     let leaves : LeavesCents events line time days window lo hi = lawful_answer days window events line time facts (UndecidedCents lo hi) is in
     let none = none_of_facts days window events line time facts (UndecidedCents lo hi) is leaves.facts cents_undecided_place leaves.are_facts leaves.none_earlier in
     let late = not_before tick_place (TickRefuses SCALE facts) cents_undecided_place refusal first.holds none in
-    cents_are_decided days window events line time facts (UndecidedCents lo hi) is (is.is_answer).answered (index (late_is_negative refusal late)) lo hi leaves
+    cents_are_decided days window events line time facts (UndecidedCents lo hi) is (is.is_answer).answered (index (late_tick_is_negative refusal late)) lo hi leaves
 first_refusal_is_answered days window events line time facts (UndecidedForward Near strike lo hi) refusal is first near next index =
     let h = (is.is_answer).answered in
     let leaves : LeavesNearForward events line time days window strike lo hi = lawful_answer days window events line time facts (UndecidedForward Near strike lo hi) is in

@@ -10,7 +10,7 @@ use Rattle.vx_bounds.specs.Cents.{Decides}
 use Rattle.vx_bounds.specs.declared.cents.Decision.{Decision}
 use Rattle.vx_bounds.specs.declared.cents.Decision.TheVariants as decision
 use Rattle.vx_formula.specs.Term.{TermFacts}
-use Rattle.vx_forward.proofs.ForwardLemmas.{unit_at_most}
+use Rattle.vx_interval.proofs.Ranges.{unit_at_most}
 use Rattle.vx_strip.specs.Entries.{entry_of, entries_of}
 use Rattle.vx_sum.specs.Sums.{row_ends}
 use Rattle.vx_cert.specs.declared.limits.TheConstants.{LINE_MAX}
@@ -117,8 +117,8 @@ module _ (P line time days : ℕ) (at_line : (1 ≤ line) × (line ≤ LINE_MAX)
 -- ---- the answers for picked terms can be joined
 
 -- a run over lawful facts has a contribution for each row
-as_many : (x : Expiry) (f : TermFacts) (run : TermRun SCALE) → IsRun SCALE x f run → length run.sum.rows ≡ length run.strip.rows
-as_many x f run is =
+as_many_contributions : (x : Expiry) (f : TermFacts) (run : TermRun SCALE) → IsRun SCALE x f run → length run.sum.rows ≡ length run.strip.rows
+as_many_contributions x f run is =
     ap length ((is.numbers_are).sum_is).rows ∙ length-map (entries_of run.strip) (row_ends SCALE) ∙ length-map run.strip.rows entry_of
 
 -- a variance in range and in order is an interval
@@ -143,13 +143,13 @@ module _ (days : ℕ) (x y : Expiry) (f g : TermFacts) (in_days : AreDaysInRange
         near_is = record {
           interval = interval_of near.w (near_ordered days x y f g near next in_days near_lawful next_lawful near_run next_run picked) first;
           variance = first;
-          contributions = as_many x f near near_run;
+          contributions = as_many_contributions x f near near_run;
           statable = run_is_statable SCALE x f near fine x_in_range near_lawful near_run;
         };
         next_is = record {
           interval = interval_of next.w (next_ordered days x y f g near next in_days near_lawful next_lawful near_run next_run picked) second;
           variance = second;
-          contributions = as_many y g next next_run;
+          contributions = as_many_contributions y g next next_run;
           statable = run_is_statable SCALE y g next fine y_in_range next_lawful next_run;
         };
       }

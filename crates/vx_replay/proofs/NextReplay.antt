@@ -39,8 +39,8 @@ module _ (old new : Replay) (e : Event) (applies : Applies old.book e new.book) 
       }
 
 -- a replay whose book stands for the same, with as many strips, stands for the same
-pub stands_still : (old new : Replay) → BookStandsStill old.book new.book → length new.kept.items ≡ length old.kept.items → StandsStill old new
-stands_still old new still same events h = record { lawful = h.lawful; book = still events h.book; strips = same ∙ h.strips }
+pub replay_stands_still : (old new : Replay) → BookStandsStill old.book new.book → length new.kept.items ≡ length old.kept.items → StandsStill old new
+replay_stands_still old new still same events h = record { lawful = h.lawful; book = still events h.book; strips = same ∙ h.strips }
 
 -- what holds whatever happens holds after a refusal
 pub on_err : {A E P : Type 0} (r : Result A E) → P → OnErr r P

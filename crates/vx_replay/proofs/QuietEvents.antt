@@ -23,16 +23,16 @@ pub record IsUnanswered (e : Event) : Type 0 where
   pub leaves_strips : (events : List Event) (strips : List Holding) (count : ℕ) (memory : NoMemory)
       → AreKeptAfter events e strips strips count count (Err memory)
 
-pub unanswered : (e : Event) → IsNoTick e → IsUnanswered e
-unanswered (event.Header day) h = record { answers_none = λ events. refl; leaves_strips = λ events strips count memory. record { same = refl; none = refl } }
-unanswered (event.Expiry x) h = record { answers_none = λ events. refl; leaves_strips = λ events strips count memory. record { same = refl; none = refl } }
-unanswered (event.Rate x rate) h = record { answers_none = λ events. refl; leaves_strips = λ events strips count memory. record { same = refl; none = refl } }
-unanswered (event.Series s) h = record { answers_none = λ events. refl; leaves_strips = λ events strips count memory. record { same = refl; none = refl } }
-unanswered (event.Quote time s bid ask) h = record { answers_none = λ events. refl; leaves_strips = λ events strips count memory. record { same = refl; none = refl } }
-unanswered (event.Trade time s price) h = record { answers_none = λ events. refl; leaves_strips = λ events strips count memory. record { same = refl; none = refl } }
-unanswered (event.Tick time) h = absurd (h time refl)
-unanswered (event.Opening time) h = record { answers_none = λ events. refl; leaves_strips = λ events strips count memory. record { same = refl; none = refl } }
-unanswered (event.End count) h = record { answers_none = λ events. refl; leaves_strips = λ events strips count memory. record { same = refl; none = refl } }
+pub no_tick_is_unanswered : (e : Event) → IsNoTick e → IsUnanswered e
+no_tick_is_unanswered (event.Header day) h = record { answers_none = λ events. refl; leaves_strips = λ events strips count memory. record { same = refl; none = refl } }
+no_tick_is_unanswered (event.Expiry x) h = record { answers_none = λ events. refl; leaves_strips = λ events strips count memory. record { same = refl; none = refl } }
+no_tick_is_unanswered (event.Rate x rate) h = record { answers_none = λ events. refl; leaves_strips = λ events strips count memory. record { same = refl; none = refl } }
+no_tick_is_unanswered (event.Series s) h = record { answers_none = λ events. refl; leaves_strips = λ events strips count memory. record { same = refl; none = refl } }
+no_tick_is_unanswered (event.Quote time s bid ask) h = record { answers_none = λ events. refl; leaves_strips = λ events strips count memory. record { same = refl; none = refl } }
+no_tick_is_unanswered (event.Trade time s price) h = record { answers_none = λ events. refl; leaves_strips = λ events strips count memory. record { same = refl; none = refl } }
+no_tick_is_unanswered (event.Tick time) h = absurd (h time refl)
+no_tick_is_unanswered (event.Opening time) h = record { answers_none = λ events. refl; leaves_strips = λ events strips count memory. record { same = refl; none = refl } }
+no_tick_is_unanswered (event.End count) h = record { answers_none = λ events. refl; leaves_strips = λ events strips count memory. record { same = refl; none = refl } }
 
 -- ---- and no expiry
 

@@ -24,7 +24,7 @@ use Rattle.vx_replay.specs.Ticks.{IsAnswerFor, IsAnswerOfTerms}
 use Rattle.vx_replay.specs.StripsAfter.{Holding, TermStrips, MayHoldStrips, AreKeptOtherwise, AreKeptAfterTick}
 use Rattle.vx_replay.specs.TermSteps.{IsTermKept}
 use Rattle.vx_replay.proofs.StripSteps.{MayHold, may_hold, not_reached, strips_may_hold, after_join}
-use Rattle.vx_replay.proofs.TickSteps.{places_differ, stands_at}
+use Rattle.vx_replay.proofs.TickSteps.{places_differ, some_stands_at}
 
 -- a write of what stands there
 set_same : {A : Type 0} (xs : List A) (i : ℕ) (x : A) → slice_get xs i ≡ Some x → set xs i x ≡ xs
@@ -54,8 +54,8 @@ pub picked_at : (events : List Event) (now : Moment) (xs : List Expiry) (i j : �
     → IsSomeAnd (slice_get xs i) (IsNearTerm now.day INDEX_DAYS INDEX_WINDOW xs) → IsSomeAnd (slice_get xs j) (IsNextTerm now.day INDEX_DAYS INDEX_WINDOW xs)
     → ArePicked events now i j
 picked_at events now xs i j e near next =
-    let a = stands_at xs i (IsNearTerm now.day INDEX_DAYS INDEX_WINDOW xs) near in
-    let b = stands_at xs j (IsNextTerm now.day INDEX_DAYS INDEX_WINDOW xs) next in
+    let a = some_stands_at xs i (IsNearTerm now.day INDEX_DAYS INDEX_WINDOW xs) near in
+    let b = some_stands_at xs j (IsNextTerm now.day INDEX_DAYS INDEX_WINDOW xs) next in
     record {
       near = a.x;
       is_near = subst (λ (l : List Expiry). IsNearTerm now.day INDEX_DAYS INDEX_WINDOW l a.x) e a.passes;
@@ -66,8 +66,8 @@ picked_at events now xs i j e near next =
     }
 
 -- what stands at a place among the same expiries
-pub at_same : (xs ys : List Expiry) (i : ℕ) (x : Expiry) → xs ≡ ys → slice_get ys i ≡ Some x → slice_get xs i ≡ Some x
-at_same xs ys i x e at = ap (λ (l : List Expiry). slice_get l i) e ∙ at
+pub at_same_place : (xs ys : List Expiry) (i : ℕ) (x : Expiry) → xs ≡ ys → slice_get ys i ≡ Some x → slice_get xs i ≡ Some x
+at_same_place xs ys i x e at = ap (λ (l : List Expiry). slice_get l i) e ∙ at
 
 -- the answer of their two answers
 pub answer_of_terms : (events : List Event) (now : Moment) (line i j : ℕ) (picked : ArePicked events now i j) (a b : TermAnswer SCALE) → line ≡ length events + 1

@@ -35,13 +35,13 @@ with_run_one line time days x y near_facts next_facts near (term.Run next) a b h
 with_run_one line time days x y near_facts next_facts near (term.Refused refusal) a b h k p q = p ∙ sym q
 with_run_one line time days x y near_facts next_facts near (term.UndecidedForward strike lo hi) a b h k p q = p ∙ sym q
 
-joined_one : (line time days : ℕ) (x y : Expiry) (near_facts next_facts : TermFacts) (near next : TermAnswer SCALE) (a b : TickAnswer)
+joined_tick_is_one : (line time days : ℕ) (x y : Expiry) (near_facts next_facts : TermFacts) (near next : TermAnswer SCALE) (a b : TickAnswer)
     → IsTermAnswer SCALE x near_facts near → IsTermAnswer SCALE y next_facts next
     → IsJoined line time days near next a → IsJoined line time days near next b → a ≡ b
-joined_one line time days x y near_facts next_facts (term.Run near) next a b h k p q =
+joined_tick_is_one line time days x y near_facts next_facts (term.Run near) next a b h k p q =
     with_run_one line time days x y near_facts next_facts near next a b h k p q
-joined_one line time days x y near_facts next_facts (term.Refused refusal) next a b h k p q = p ∙ sym q
-joined_one line time days x y near_facts next_facts (term.UndecidedForward strike lo hi) next a b h k p q = p ∙ sym q
+joined_tick_is_one line time days x y near_facts next_facts (term.Refused refusal) next a b h k p q = p ∙ sym q
+joined_tick_is_one line time days x y near_facts next_facts (term.UndecidedForward strike lo hi) next a b h k p q = p ∙ sym q
 
 -- ---- of the events before a tick
 
@@ -60,7 +60,7 @@ module _ (events : List Event) (now : Moment) (line days window : ℕ) where
       subst (λ (z : TermAnswer SCALE). IsJoined line now.minute days z h.next_answer a) firsts h.joined in
       let two : IsJoined line now.minute days k.near_answer k.next_answer a =
       subst (λ (z : TermAnswer SCALE). IsJoined line now.minute days k.near_answer z a) seconds one in
-      joined_one line now.minute days k.near k.next (term_facts events now k.near) (term_facts events now k.next) k.near_answer k.next_answer a b k.is_near_answer k.is_next_answer two k.joined
+      joined_tick_is_one line now.minute days k.near k.next (term_facts events now k.near) (term_facts events now k.next) k.near_answer k.next_answer a b k.is_near_answer k.is_next_answer two k.joined
 
   abbrev Steps : TickAnswer → Type 0
   Steps a =

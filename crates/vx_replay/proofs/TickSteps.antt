@@ -146,8 +146,8 @@ some_and None Test h = absurd h
 some_and (Some x) Test h = (x, refl, h)
 
 -- where the item at a place passes a test, there is one
-pub stands_at : {A : Type 0} (xs : List A) (place : ℕ) (Test : A → Type 0) → IsSomeAnd (slice_get xs place) Test → StandsAt xs place Test
-stands_at xs place Test h = let s = some_and (slice_get xs place) Test h in record { x = s.0; at = s.1; passes = s.2 }
+pub some_stands_at : {A : Type 0} (xs : List A) (place : ℕ) (Test : A → Type 0) → IsSomeAnd (slice_get xs place) Test → StandsAt xs place Test
+some_stands_at xs place Test h = let s = some_and (slice_get xs place) Test h in record { x = s.0; at = s.1; passes = s.2 }
 
 -- the near term settles after the tick
 pub near_is_ahead : (now : Moment) (xs : List Expiry) (x : Expiry) → IsNearTerm now.day INDEX_DAYS INDEX_WINDOW xs x → IsAhead now x

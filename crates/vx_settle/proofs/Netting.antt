@@ -65,8 +65,8 @@ right_true false b e = cc
 contract_at : (contract : Contract) (last : ℕ) (p : Position) → is_position_at contract last p ≡ true → contract ≡ p.contract
 contract_at contract last p e = same_contract contract p.contract (left_true (is_same_contract contract p.contract) (last == p.last) e)
 
-last_at : (contract : Contract) (last : ℕ) (p : Position) → is_position_at contract last p ≡ true → last ≡ p.last
-last_at contract last p e = eqb-true last p.last (right_true (is_same_contract contract p.contract) (last == p.last) e)
+position_last_is : (contract : Contract) (last : ℕ) (p : Position) → is_position_at contract last p ≡ true → last ≡ p.last
+position_last_is contract last p e = eqb-true last p.last (right_true (is_same_contract contract p.contract) (last == p.last) e)
 
 -- a position is in its own contract with its own last price
 at_own : (p : Position) → is_position_at p.contract p.last p ≡ true
@@ -74,7 +74,7 @@ at_own p = ap (λ (b : Bool). b && (p.last == p.last)) (is_same_contract-refl p.
 
 worth_at : (figure : ℕ) (contract : Contract) (last : ℕ) (p : Position) → is_position_at contract last p ≡ true → worth_of figure p ≡ gain_of figure contract last *ℤ p.quantity
 worth_at figure contract last p e =
-    ap (λ (c : Contract). gain_of figure c p.last *ℤ p.quantity) (sym (contract_at contract last p e)) ∙ ap (λ (l : ℕ). gain_of figure contract l *ℤ p.quantity) (sym (last_at contract last p e))
+    ap (λ (c : Contract). gain_of figure c p.last *ℤ p.quantity) (sym (contract_at contract last p e)) ∙ ap (λ (l : ℕ). gain_of figure contract l *ℤ p.quantity) (sym (position_last_is contract last p e))
 
 worth_step : (figure : ℕ) (p : Position) (ps os : List Position) (b : Bool) (gain net : ℤ) → (b ≡ true → worth_of figure p ≡ gain *ℤ p.quantity) → worth_of_all figure ps ≡ gain *ℤ net +ℤ worth_of_all figure os → worth_of figure p +ℤ worth_of_all figure ps ≡ gain *ℤ (if b then p.quantity +ℤ net else net) +ℤ worth_of_all figure (if b then os else p ∷ os)
 worth_step figure p ps os true gain net here rest = taken (worth_of figure p) (worth_of_all figure ps) (worth_of_all figure os) gain p.quantity net (here refl) rest
@@ -101,9 +101,9 @@ net_taken true contract last p os e h = h
 net_taken false contract last p os e h = ap (λ (b : Bool). if b then p.quantity +ℤ net_quantity contract last os else net_quantity contract last os) e ∙ h
 
 -- none of those is among the others
-none_left : (contract : Contract) (last : ℕ) (ps : List Position) → net_quantity contract last (others contract last ps) ≡ pos 0
-none_left contract last [] = refl
-none_left contract last (p ∷ ps) = net_taken (is_position_at contract last p) contract last p (others contract last ps) refl (none_left contract last ps)
+others_net_nothing : (contract : Contract) (last : ℕ) (ps : List Position) → net_quantity contract last (others contract last ps) ≡ pos 0
+others_net_nothing contract last [] = refl
+others_net_nothing contract last (p ∷ ps) = net_taken (is_position_at contract last p) contract last p (others contract last ps) refl (others_net_nothing contract last ps)
 
 net_kept : (b a : Bool) (contract : Contract) (last : ℕ) (p : Position) (ps os : List Position) → is_position_at contract last p ≡ a → (b ≡ true → a ≡ true → ⊥) → net_quantity contract last os ≡ net_quantity contract last ps → net_quantity contract last (if b then os else p ∷ os) ≡ (if a then p.quantity +ℤ net_quantity contract last ps else net_quantity contract last ps)
 net_kept true true contract last p ps os e apart h = absurd (apart refl refl)
@@ -112,12 +112,12 @@ net_kept false a contract last p ps os e apart h =
     ap (λ (b : Bool). if b then p.quantity +ℤ net_quantity contract last os else net_quantity contract last os) e ∙ ap (λ (z : ℤ). if a then p.quantity +ℤ z else z) h
 
 -- what another contract or last price nets to is as it was
-others_kept : (contract : Contract) (last : ℕ) (contract' : Contract) (last' : ℕ) (ps : List Position) → (contract' ≡ contract → last' ≡ last → ⊥) → net_quantity contract' last' (others contract last ps) ≡ net_quantity contract' last' ps
-others_kept contract last contract' last' [] apart = refl
-others_kept contract last contract' last' (p ∷ ps) apart =
+others_net_as_before : (contract : Contract) (last : ℕ) (contract' : Contract) (last' : ℕ) (ps : List Position) → (contract' ≡ contract → last' ≡ last → ⊥) → net_quantity contract' last' (others contract last ps) ≡ net_quantity contract' last' ps
+others_net_as_before contract last contract' last' [] apart = refl
+others_net_as_before contract last contract' last' (p ∷ ps) apart =
     net_kept (is_position_at contract last p) (is_position_at contract' last' p) contract' last' p ps (others contract last ps) refl
-    (λ e f. apart (contract_at contract' last' p f ∙ sym (contract_at contract last p e)) (last_at contract' last' p f ∙ sym (last_at contract last p e)))
-    (others_kept contract last contract' last' ps apart)
+    (λ e f. apart (contract_at contract' last' p f ∙ sym (contract_at contract last p e)) (position_last_is contract' last' p f ∙ sym (position_last_is contract last p e)))
+    (others_net_as_before contract last contract' last' ps apart)
 
 emptied : (total : ℤ) → pos 100 *ℤ total ≡ pos 0 → total ≡ pos 0
 emptied total e = omega (arith, ints)
@@ -137,9 +137,9 @@ others_net : (contract : Contract) (last : ℕ) (ps : List Position) (same : Boo
 others_net contract last ps true contract' last' is h =
     let c : contract ≡ contract' = same_contract contract contract' (left_true (is_same_contract contract contract') (last == last') is) in
     let l : last ≡ last' = eqb-true last last' (right_true (is_same_contract contract contract') (last == last') is) in
-    (λ i. net_quantity (c i) (l i) (others contract' last' ps)) ∙ none_left contract' last' ps
+    (λ i. net_quantity (c i) (l i) (others contract' last' ps)) ∙ others_net_nothing contract' last' ps
 others_net contract last ps false contract' last' is h =
-    others_kept contract' last' contract last ps
+    others_net_as_before contract' last' contract last ps
     (λ c l. apart (sym is ∙ ((λ i. is_same_contract (c i) contract' && (l i == last')) ∙ (ap (λ (b : Bool). b && (last' == last')) (is_same_contract-refl contract') ∙ eq-eqb last' last' refl))))
     ∙ h
   where

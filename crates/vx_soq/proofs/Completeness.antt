@@ -65,11 +65,11 @@ clear_opening_is_published events (UndecidedForward strike lo hi) lawful is none
     term_is_decided _ is.time strike lo hi is.term_answer (forward_is_decided events (UndecidedForward strike lo hi) lawful is forward) is.joined
 clear_opening_is_published events (Refused reason) lawful is none forward index = none _ (opening_answer_is_lawful events (Refused reason) lawful is).holds
 
-late_is_negative : (reason : OpeningReason) → opening_cents_undecided_place ≤ opening_place reason → reason ≡ negative_opening
-late_is_negative no_opening late = absurd (omega (arith, late))
-late_is_negative no_term late = absurd (omega (arith, late))
-late_is_negative (of_term reason) late = let r = place_range reason in absurd (omega (arith, late, r.1))
-late_is_negative negative_opening late = refl
+late_opening_is_negative : (reason : OpeningReason) → opening_cents_undecided_place ≤ opening_place reason → reason ≡ negative_opening
+late_opening_is_negative no_opening late = absurd (omega (arith, late))
+late_opening_is_negative no_term late = absurd (omega (arith, late))
+late_opening_is_negative (of_term reason) late = let r = place_range reason in absurd (omega (arith, late, r.1))
+late_opening_is_negative negative_opening late = refl
 
 not_forward_place : (reason : OpeningReason) → opening_undecided_place ≤ opening_place reason → opening_undecided_place < opening_place reason
 not_forward_place no_opening late = omega (arith, late)
@@ -87,7 +87,7 @@ first_opening_refusal_is_answered events (Published figure) lawful is refusal fi
 first_opening_refusal_is_answered events (UndecidedCents lo hi) lawful is refusal first forward index =
     let leaves : LeavesOpeningCents events lo hi = opening_answer_is_lawful events (UndecidedCents lo hi) lawful is in
     let late = not_before opening_place (OpeningRefuses SCALE (opening_facts events)) opening_cents_undecided_place refusal first.holds leaves.none_earlier in
-    cents_are_decided events (UndecidedCents lo hi) lawful is (index (late_is_negative refusal late)) lo hi leaves
+    cents_are_decided events (UndecidedCents lo hi) lawful is (index (late_opening_is_negative refusal late)) lo hi leaves
 first_opening_refusal_is_answered events (UndecidedForward strike lo hi) lawful is refusal first forward index =
     let leaves : LeavesOpeningForward events strike lo hi = opening_answer_is_lawful events (UndecidedForward strike lo hi) lawful is in
     let late = not_forward_place refusal (not_before opening_place (OpeningRefuses SCALE (opening_facts events)) opening_undecided_place refusal first.holds leaves.none_earlier) in

@@ -25,19 +25,19 @@ use Rattle.vx_soq.specs.Figures.{IsJoined}
 use Rattle.vx_soq.specs.Openings.{IsTaken, HasNoTerm, IsAnswerOfTerm, IsOpeningAnswer}
 use Rattle.vx_soq.proofs.FigureIsOne.{square_is_in_order, figure_is_one}
 
-joined_one : (line time : ℕ) (x : Expiry) (facts : TermFacts) (answer : TermAnswer SCALE) (a b : OpeningAnswer)
+joined_opening_is_one : (line time : ℕ) (x : Expiry) (facts : TermFacts) (answer : TermAnswer SCALE) (a b : OpeningAnswer)
     → IsTermAnswer SCALE x facts answer → IsJoined line time answer a → IsJoined line time answer b → a ≡ b
-joined_one line time x facts (term.Run run) a b h p q = figure_is_one line time run a b (square_is_in_order x facts run h) p q
-joined_one line time x facts (term.Refused refusal) a b h p q = p ∙ sym q
-joined_one line time x facts (term.UndecidedForward strike lo hi) a b h p q = p ∙ sym q
+joined_opening_is_one line time x facts (term.Run run) a b h p q = figure_is_one line time run a b (square_is_in_order x facts run h) p q
+joined_opening_is_one line time x facts (term.Refused refusal) a b h p q = p ∙ sym q
+joined_opening_is_one line time x facts (term.UndecidedForward strike lo hi) a b h p q = p ∙ sym q
 
 -- the rows of the opening's term rise
 chosen : (b : Bool) (facts other : TermFacts) → cond b (Some facts) None ≡ Some other → facts ≡ other
 chosen true facts other e = same_Some facts other e
 chosen false facts other e = absurd (none-some other e)
 
-rows_rise : (events : List Event) (day : DayNo) (facts : TermFacts) → opening_term_of events day ≡ Some facts → StrikesRise facts.rows
-rows_rise events day facts e =
+opening_rows_rise : (events : List Event) (day : DayNo) (facts : TermFacts) → opening_term_of events day ≡ Some facts → StrikesRise facts.rows
+opening_rows_rise events day facts e =
     let same : opening_term_facts events day ≡ facts = chosen (is_declared (opening_expiry day) (before_opening events)) (opening_term_facts events day) facts e in
     subst (λ (f : TermFacts). StrikesRise f.rows) same (listed_rows_rise (opening_expiry day) events).1
 
@@ -55,10 +55,10 @@ module _ (events : List Event) where
       let answer_of : IsTermAnswer SCALE (opening_expiry k.day) k.facts h.term_answer =
       subst (λ (f : TermFacts). IsTermAnswer SCALE (opening_expiry k.day) f h.term_answer) facts answer_at in
       let answers : h.term_answer ≡ k.term_answer =
-      term_answer_is_one SCALE (opening_expiry k.day) k.facts h.term_answer k.term_answer (rows_rise events k.day k.facts k.facts_are) answer_of k.is_term_answer in
+      term_answer_is_one SCALE (opening_expiry k.day) k.facts h.term_answer k.term_answer (opening_rows_rise events k.day k.facts k.facts_are) answer_of k.is_term_answer in
       let one : IsJoined (opening_line events) k.time h.term_answer a = subst (λ (t : ℕ). IsJoined (opening_line events) t h.term_answer a) times h.joined in
       let two : IsJoined (opening_line events) k.time k.term_answer a = subst (λ (t : TermAnswer SCALE). IsJoined (opening_line events) k.time t a) answers one in
-      joined_one (opening_line events) k.time (opening_expiry k.day) k.facts k.term_answer a b k.is_term_answer two k.joined
+      joined_opening_is_one (opening_line events) k.time (opening_expiry k.day) k.facts k.term_answer a b k.is_term_answer two k.joined
 
   abbrev Steps : OpeningAnswer → Type 0
   Steps a =

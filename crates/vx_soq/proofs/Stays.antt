@@ -24,15 +24,15 @@ use Rattle.vx_soq.specs.Figures.{IsJoined}
 use Rattle.vx_soq.specs.Openings.{HasNoTerm, IsAnswerOfTerm}
 use Rattle.vx_soq.specs.Laws.{OpeningAnswerStays}
 
-or_kept : {A : Type 0} → (a b c : Option A) → (IsSome b → c ≡ b) → IsSome (option_or a b) → option_or a c ≡ option_or a b
-or_kept None b c more h = more h
-or_kept (Some v) b c more h = refl
+or_stays : {A : Type 0} → (a b c : Option A) → (IsSome b → c ≡ b) → IsSome (option_or a b) → option_or a c ≡ option_or a b
+or_stays None b c more h = more h
+or_stays (Some v) b c more h = refl
 
 -- what is said first stays so
-first_kept : {X A : Type 0} → (says : X → Option A) (xs ys : List X) → IsSome (first_said says xs)
+first_said_stays : {X A : Type 0} → (says : X → Option A) (xs ys : List X) → IsSome (first_said says xs)
     → first_said says (xs ++ ys) ≡ first_said says xs
-first_kept says [] ys h = absurd cc
-first_kept says (x ∷ xs) ys h = or_kept (says x) (first_said says xs) (first_said says (xs ++ ys)) (first_kept says xs ys) h
+first_said_stays says [] ys h = absurd cc
+first_said_stays says (x ∷ xs) ys h = or_stays (says x) (first_said says xs) (first_said says (xs ++ ys)) (first_said_stays says xs ys) h
 
 -- the events before the opening stay the same
 before_stays : (events more : List Event) → IsSome (opening_time events) → before_opening (events ++ more) ≡ before_opening events
@@ -90,10 +90,10 @@ module _ (events more : List Event) (lawful : AreLawful (events ++ more)) (taken
   before_same = before_stays events more taken
 
   time_same : opening_time (events ++ more) ≡ opening_time events
-  time_same = first_kept opening_minute events more taken
+  time_same = first_said_stays opening_minute events more taken
 
   day_same : trade_date (events ++ more) ≡ trade_date events
-  day_same = first_kept header_day events more (date_stands events more lawful taken)
+  day_same = first_said_stays header_day events more (date_stands events more lawful taken)
 
   term_same : (day : DayNo) → opening_term_of (events ++ more) day ≡ opening_term_of events day
   term_same day = ap (term_by day) before_same

@@ -80,7 +80,8 @@ spread_form x T Q =
     let order : 1 * (1 * Q * (1 * Q)) * T ≡ T * (Q * Q) = omega arith in
     omega (arith, ints, ap (λ k. x *ℤ pos k) order, mul_assoc x (pos T) (pos (Q * Q)))
 
-span_is : (target n1 n2 : ℕ) → n1 < n2 → span target n1 n2 ≡ pos (target * (n2 - n1))
+-- the target times the time between the terms, as a whole number
+pub span_is : (target n1 n2 : ℕ) → n1 < n2 → span target n1 n2 ≡ pos (target * (n2 - n1))
 span_is target n1 n2 h = let e : pos n2 -ℤ pos n1 ≡ pos (n2 - n1) = omega (arith, ints) in ap (λ z. pos target *ℤ z) e
 
 square_low : (x y m n s : ℤ) (T Q : ℕ) → s ≡ pos T → (x *ℤ s) ≤ℤ (y *ℤ (m +ℤ n))

@@ -1,5 +1,5 @@
 -- An accepted certificate means what it says, kind by kind.
-use Rattle.std.proofs.Common.{◌≡◌, ℕ, zero, suc, ◌+◌, ◌-◌, ◌*◌, ◌^◌, ◌<◌, ◌≤◌, ◌⊎◌, Bool, true, false, cond, ℤ, pos, negsuc, ◌≤ℤ◌, ◌<ℤ◌, nat_abs, List, [], ◌∷◌, Option, Some, None, refl, sym, ◌∙◌, ap, subst, inl, inr, arith}
+use Rattle.std.proofs.Common.{◌≡◌, ℕ, zero, suc, ◌+◌, ◌-◌, ◌*◌, ◌^◌, ◌<◌, ◌≤◌, true, ℤ, pos, negsuc, ◌≤ℤ◌, ◌<ℤ◌, nat_abs, List, [], ◌∷◌, Option, Some, None, refl, sym, ◌∙◌, ap, subst, inl, inr, arith}
 use Rattle.std.specs.List.{slice_get}
 use Rattle.std.specs.Option.{option_or, option_and_then, is_some}
 use Rattle.std.proofs.lemmas.Bool.{cond-true}
@@ -13,13 +13,10 @@ use Rattle.vx_clock.specs.declared.terms.Moment.{Moment}
 use Rattle.vx_clock.specs.declared.limits.TheConstants.{DAY_MINUTES, DAYS_AHEAD_MAX, MINUTES_MAX}
 use Rattle.vx_clock.specs.Minutes.{days_until, settlement_minute, minutes_between}
 use Rattle.vx_clock.specs.Terms.{IsNearTerm, IsNextTerm}
-use Rattle.vx_symbol.specs.Rows.{IsRateInRange}
 use Rattle.vx_feed.specs.declared.events.Event.{Event}
 use Rattle.vx_feed.specs.declared.events.Event.TheVariants as event
-use Rattle.vx_feed.specs.Same.{is_same_expiry}
-use Rattle.vx_feed.specs.Ranges.{IsInRange}
-use Rattle.vx_feed.specs.Said.{first_said, last_said}
-use Rattle.vx_feed.specs.Standing.{before_opening, rate_of, standing_rate}
+use Rattle.vx_feed.specs.Said.{first_said}
+use Rattle.vx_feed.specs.Standing.{before_opening}
 use Rattle.vx_feed.specs.Listed.{trade_date, declared_expiries, is_declared, standing_price}
 use Rattle.vx_feed.specs.Opening.{opening_minute, opening_time, opening_price}
 use Rattle.vx_feed.specs.Order.{AreLawful}
@@ -37,7 +34,6 @@ use Rattle.vx_formula.specs.Between.{BetweenAt}
 use Rattle.vx_formula.specs.Refusal.{TermRefuses, TickReason, no_near_term, no_next_term, of_near, of_next, negative_variance, TickRefuses, OpeningFacts, OpeningReason, no_opening, no_term, of_term, negative_opening, OpeningRefuses}
 use Rattle.vx_formula.proofs.FigureLemmas.{figure_is_one, figure_is_not_negative}
 use Rattle.vx_formula.proofs.RangeLemmas.{exponent_is_small}
-use Rattle.vx_formula.proofs.Lists.{In}
 use Rattle.vx_claims.specs.declared.limits.TheConstants.{SCALE}
 use Rattle.vx_claims.specs.Seen.{events_before, moment_of, term_facts, opening_expiry, opening_term_facts, opening_term_of, opening_facts}
 use Rattle.vx_claims.specs.declared.acceptance.Test.{Test}
@@ -50,7 +46,8 @@ use Rattle.vx_claims.proofs.LevelLemmas.{trade_date_stands, means_level}
 use Rattle.vx_soundness.specs.Laws.{AcceptedMeans}
 use Rattle.vx_soundness.proofs.FigureLemmas.{square_proper, square_enclosed, single_proper, single_enclosed, between_stated, rounds_stated}
 use Rattle.vx_feed.proofs.RisingStrikes.{rows_rise}
-use Rattle.vx_soundness.proofs.RowLemmas.{AllInRange, lawful_in_range, take_in_range, opening_in_range, rows_positive}
+use Rattle.vx_claims.proofs.InRange.{lawful_in_range, take_in_range, before_in_range, said_rate_in_range}
+use Rattle.vx_soundness.proofs.RowLemmas.{rows_positive}
 use Rattle.vx_soundness.proofs.TermAt.{stated_term, term_of_facts, holds_at}
 use Rattle.vx_soundness.proofs.NoRefusal.{same_term, not_refused}
 
@@ -76,36 +73,6 @@ minutes_apart : (m s r : ℕ) (y z : ℤ) (days : ℕ) → pos 1 ≤ℤ y → y 
 minutes_apart m s r (negsuc a) z days low high later early late = absurd (omega (arith, ints))
 minutes_apart m s r (pos a) (negsuc b) days low high later early late = absurd (omega (arith, ints))
 minutes_apart m s r (pos a) (pos b) days low high later early late = omega (arith, ints)
-
-or_either : {A : Type 0} (a b : Option A) (r : A) → option_or a b ≡ Some r → (a ≡ Some r) ⊎ (b ≡ Some r)
-or_either (Some x) b r h = inl h
-or_either None b r h = inr h
-
-said_in : {A : Type 0} (says : Event → Option A) (events : List Event) (r : A) → last_said says events ≡ Some r → (e : Event) × In events e × (says e ≡ Some r)
-said_in says [] r h = absurd cc
-said_in says (e ∷ events) r h =
-    elim (or_either (last_said says events) (says e) r h) [
-      | inl later ↦ let found = said_in says events r later in (found.0, inr found.1, found.2)
-      | inr here ↦ (e, inl refl, here)
-    ]
-
-chosen_rate : (b : Bool) (a r : ℤ) → cond b (Some a) None ≡ Some r → a ≡ r
-chosen_rate true a r h = cc
-chosen_rate false a r h = absurd cc
-
-said_rate : (x : Expiry) (e : Event) (r : ℤ) → IsInRange e → rate_of x e ≡ Some r → IsRateInRange r
-said_rate x (event.Rate y rate) r range h = subst IsRateInRange (chosen_rate (is_same_expiry x y) rate r h) range.1
-said_rate x (event.Header day) r range h = absurd cc
-said_rate x (event.Expiry y) r range h = absurd cc
-said_rate x (event.Series s) r range h = absurd cc
-said_rate x (event.Quote time s bid ask) r range h = absurd cc
-said_rate x (event.Trade time s price) r range h = absurd cc
-said_rate x (event.Tick time) r range h = absurd cc
-said_rate x (event.Opening time) r range h = absurd cc
-said_rate x (event.End count) r range h = absurd cc
-
-rate_in_range : (x : Expiry) (events : List Event) (r : ℤ) → AllInRange events → standing_rate x events ≡ Some r → IsRateInRange r
-rate_in_range x events r range h = let found = said_in (rate_of x) events r h in said_rate x found.0 r (range found.0 found.1) found.2
 
 -- ---- the figure of terms whose tests are met
 
@@ -175,7 +142,7 @@ means_single events v line time t figure lawful all =
     let range = take_in_range (line - 1) events (lawful_in_range events lawful) in
     let positive = rows_positive (standing_price before) t.expiry before range in
     let minutes_are : facts.minutes ≡ THIRTY_DAYS = sym (meets Minutes) ∙ (all Minutes).1 in
-    let small = (exponent_is_small (stated_term facts t) (rate_in_range t.expiry before t.rate range (meets Rate)) (omega arith)).1 in
+    let small = (exponent_is_small (stated_term facts t) (said_rate_in_range t.expiry before t.rate range (meets Rate)) (omega arith)).1 in
     record {
       term = stated_term facts t;
       is_seen = record { is_tick = all Place; day = found.0; day_is = found.1; of_facts = term_of_facts (scale_of v) facts t meets some positive };
@@ -351,8 +318,8 @@ means_index days window events v line time stated near next figure fits lawful v
     let later : f.minutes < g.minutes = minutes_apart time (settlement_minute near.expiry.root) (settlement_minute next.expiry.root) d1 d2 days first last after early late in
     let near_most : f.minutes ≤ MINUTES_MAX = minutes_at_most time (settlement_minute near.expiry.root) d1 days first last (omega arith) early in
     let next_most : g.minutes ≤ MINUTES_MAX = minutes_at_most time (settlement_minute next.expiry.root) d2 (days + window) (omega (arith, ints)) until fits (settlement_at_most next.expiry.root) in
-    let near_small = (exponent_is_small (stated_term f near) (rate_in_range near.expiry before near.rate range (near_tests Rate)) near_most).1 in
-    let next_small = (exponent_is_small (stated_term g next) (rate_in_range next.expiry before next.rate range (next_tests Rate)) next_most).1 in
+    let near_small = (exponent_is_small (stated_term f near) (said_rate_in_range near.expiry before near.rate range (near_tests Rate)) near_most).1 in
+    let next_small = (exponent_is_small (stated_term g next) (said_rate_in_range next.expiry before next.rate range (next_tests Rate)) next_most).1 in
     let figure_is = figure_of_two P target f g near next figure near_tests next_tests near_some next_some near_positive next_positive ahead later near_small next_small (all Square) (all IndexEnds) in
     let at = version_scale v version in
     record {
@@ -459,9 +426,9 @@ means_opening events v line time t figure lawful version all =
     let P = scale_of v in
     let tests = opening_meets events v line time t figure day expiry.day_is all in
     let some : 1 ≤ facts.minutes = omega arith in
-    let range = opening_in_range events (lawful_in_range events lawful) in
+    let range = before_in_range events (lawful_in_range events lawful) in
     let positive = rows_positive (opening_price events) x before range in
-    let small = (exponent_is_small (stated_term facts t) (rate_in_range x before t.rate range (tests Rate)) (omega arith)).1 in
+    let small = (exponent_is_small (stated_term facts t) (said_rate_in_range x before t.rate range (tests Rate)) (omega arith)).1 in
     let figure_is = figure_of_one P facts t figure tests some positive small (all Square) (all IndexEnds) in
     let at = version_scale v version in
     let F : Expiry → Type 0 = λ y. is_declared y before ≡ true in
@@ -480,15 +447,15 @@ means_opening events v line time t figure lawful version all =
 
 -- ---- every kind
 
-body_means : (days window : ℕ) (events : List Event) (v line time : ℕ) (body : CertBody) → days + window ≤ DAYS_AHEAD_MAX → AreLawful events → IsVersion v
+accepted_body_means : (days window : ℕ) (events : List Event) (v line time : ℕ) (body : CertBody) → days + window ≤ DAYS_AHEAD_MAX → AreLawful events → IsVersion v
     → ((test : Test) → BodyMeets days window events v line time body test) → BodyMeans days window events line time body
-body_means days window events v line time (K0 x pair k0) fits lawful version all =
+accepted_body_means days window events v line time (K0 x pair k0) fits lawful version all =
     means_level events v line time x pair k0 lawful (all Place) (all Rate) (all ClosestPair) (all Level)
-body_means days window events v line time (Single t figure) fits lawful version all = means_single events v line time t figure lawful all
-body_means days window events v line time (Index stated near next figure) fits lawful version all =
+accepted_body_means days window events v line time (Single t figure) fits lawful version all = means_single events v line time t figure lawful all
+accepted_body_means days window events v line time (Index stated near next figure) fits lawful version all =
     means_index days window events v line time stated near next figure fits lawful version all
-body_means days window events v line time (Soq t figure) fits lawful version all = means_opening events v line time t figure lawful version all
+accepted_body_means days window events v line time (Soq t figure) fits lawful version all = means_opening events v line time t figure lawful version all
 
 -- an accepted certificate over a lawful feed means what its kind says, for any days and window that a feed may reach
 pub accepted_means : AcceptedMeans
-accepted_means days window events c fits lawful h = body_means days window events c.v c.line c.time c.body fits lawful h.version h.meets_all
+accepted_means days window events c fits lawful h = accepted_body_means days window events c.v c.line c.time c.body fits lawful h.version h.meets_all

@@ -21,7 +21,7 @@ use Rattle.vx_claims.specs.declared.acceptance.Test.TheVariants.{Minutes, Rate, 
 use Rattle.vx_claims.specs.TermTests.{TermMeets, stated_pair, stated_entry, EnclosesContribution}
 use Rattle.vx_soundness.specs.Enclosing.{Encloses}
 use Rattle.vx_soundness.proofs.ExponentialLemmas.{exponential_enclosed}
-use Rattle.vx_soundness.proofs.TermLemmas.{forward_proper, forward_enclosed, level_enclosed, excess_enclosed, excess_nonneg, IsSummed, rows_summed, total_enclosed, variance_enclosed}
+use Rattle.vx_soundness.proofs.TermLemmas.{stated_forward_proper, forward_enclosed, level_enclosed, excess_enclosed, excess_nonneg, IsSummed, rows_summed, total_enclosed, variance_enclosed}
 use Rattle.vx_soundness.proofs.RowLemmas.{entry_is_listed}
 
 -- the term that a certificate's term states, over what the feed shows
@@ -58,7 +58,7 @@ module _ (P : ℕ) (facts : TermFacts) (t : CertTerm) (meets : (test : Test) →
       let e_in = exponential_enclosed P facts.minutes t.rate t.t_lo t.t_hi t.e e some (subst F (meets Minutes) (meets TaylorTerms)) (meets Exponential) member in
       let e_positive = members_are_positive 12 (exponent t.rate facts.minutes) e (exponent_proper t.rate facts.minutes) member in
       let forward = forward_at (stated_pair t.pair) e in
-      let proper_forward = forward_proper t.pair e member.proper in
+      let proper_forward = stated_forward_proper t.pair e member.proper in
       let f_in = forward_enclosed P t.pair e t.e t.f (meets Forward) e_in in
       let level = level_enclosed P facts.rows t.f t.k0 forward proper_forward (meets Level).0 f_in in
       let k0_some = positive t.k0 level.is_listed in

@@ -31,8 +31,8 @@ twice_one : (v : ℕ) → 1 * (1 * v) ≡ v
 twice_one v = omega arith
 
 -- the forward at a proper exponential is proper
-pub forward_proper : (pair : CertPair) (e : Fraction) → IsProper e → IsProper (forward_at (stated_pair pair) e)
-forward_proper pair e h = omega arith
+pub stated_forward_proper : (pair : CertPair) (e : Fraction) → IsProper e → IsProper (forward_at (stated_pair pair) e)
+stated_forward_proper pair e h = omega arith
 
 -- ends that meet the forward's test enclose the forward at each exponential between the ends of it
 pub forward_enclosed : (P : ℕ) (pair : CertPair) (e : Fraction) (ends f : Ends) → EnclosesForward P pair ends f → Encloses (2 ^ P) ends e → Encloses (2 ^ P) f (forward_at (stated_pair pair) e)
@@ -114,9 +114,9 @@ sums_apart a b Q = let e : (a + b) * (Q * Q) ≡ (a * Q + b * Q) * Q = omega ari
 sums_together : (a b Q : ℕ) → (over (pos a) Q +ᶠ over (pos b) Q) ≤ᶠ over (pos (a + b)) Q
 sums_together a b Q = let e : (a + b) * (Q * Q) ≡ (a * Q + b * Q) * Q = omega arith in omega (arith, ints)
 
-one_more : (P : ℕ) (row : CertRow) (low high : ℕ) (rest : Fraction) → EnclosesContribution P row → 1 ≤ row.strike → IsSummed (2 ^ P) low high rest
+contribution_more : (P : ℕ) (row : CertRow) (low high : ℕ) (rest : Fraction) → EnclosesContribution P row → 1 ≤ row.strike → IsSummed (2 ^ P) low high rest
     → IsSummed (2 ^ P) (row.lo + low) (row.hi + high) (contribution (stated_entry row) +ᶠ rest)
-one_more P row low high rest tests some h =
+contribution_more P row low high rest tests some h =
     let Q = 2 ^ P in
     let c = contribution (stated_entry row) in
     let square : 1 * 1 ≤ row.strike * row.strike = mul-le-mul some some in
@@ -153,7 +153,7 @@ rows_summed P (row ∷ rows) each =
     let high = sum_by (λ (r : CertRow). r.hi) rows in
     let F : ℕ → Type 0 = λ a. IsSummed (2 ^ P) a (row.hi + high) total in
     let G : ℕ → Type 0 = λ b. IsSummed (2 ^ P) (sum_by (λ (r : CertRow). r.lo) (row ∷ rows)) b total in
-    subst G (sym highs) (subst F (sym lows) (one_more P row low high (total_of (map stated_entry rows)) here.0 here.1 rest))
+    subst G (sym highs) (subst F (sym lows) (contribution_more P row low high (total_of (map stated_entry rows)) here.0 here.1 rest))
 
 -- and so between the ends that meet the sum's test
 pub total_enclosed : (P : ℕ) (rows : List CertRow) (s : Ends) (total : Fraction) → EnclosesTotal P rows s

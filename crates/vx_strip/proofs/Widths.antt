@@ -17,8 +17,8 @@ use Rattle.vx_strip.specs.Entries.{entry_of, IsRowInRange}
 use Rattle.vx_formula.proofs.Walks.{no_row}
 
 -- the row at a place of rising rows is below all behind it
-pub all_behind : (rows : List StrikeRow) (i : ℕ) → StrikesRise rows → i < length rows → All (λ row. (get_or rows i no_row).strike < row.strike) (drop (i + 1) rows)
-all_behind rows i rise there = λ k d low.
+pub rows_behind_are_above : (rows : List StrikeRow) (i : ℕ) → StrikesRise rows → i < length rows → All (λ row. (get_or rows i no_row).strike < row.strike) (drop (i + 1) rows)
+rows_behind_are_above rows i rise there = λ k d low.
     let len : length (drop (i + 1) rows) ≡ length rows - (i + 1) = length-drop (i + 1) rows in
     let P : StrikeRow → Type 0 = λ (r : StrikeRow). (get_or rows i no_row).strike < r.strike in
     let first : P (get_or rows (i + 1 + k) d) = subst (λ (r : StrikeRow). r.strike < (get_or rows (i + 1 + k) d).strike) (get_or_default rows i d no_row there) (rise i (i + 1 + k) d (omega arith) (omega arith)) in
@@ -44,10 +44,10 @@ abbrev pub entry_after : ℕ → Option ℕ → StrikeRow → List StrikeRow →
 entry_after level below row rest = record { strike = row.strike; d = doubled_width below row.strike (first_strike rest); q4 = strip_price level row }
 
 -- one entry on
-one_more : (level : ℕ) (below : Option ℕ) (selected : List StrikeRow) (i : ℕ) (made : List StripEntry) (whole : List StripEntry) → i < length selected
+entries_one_more : (level : ℕ) (below : Option ℕ) (selected : List StrikeRow) (i : ℕ) (made : List StripEntry) (whole : List StripEntry) → i < length selected
     → made ++ entries_after level below (drop i selected) ≡ whole
     → (made ++ entry_after level below (get_or selected i no_row) (drop (i + 1) selected) ∷ []) ++ entries_after level (Some (get_or selected i no_row).strike) (drop (i + 1) selected) ≡ whole
-one_more level below selected i made whole there so_far =
+entries_one_more level below selected i made whole there so_far =
     append_assoc made (entry_after level below (get_or selected i no_row) (drop (i + 1) selected) ∷ []) (entries_after level (Some (get_or selected i no_row).strike) (drop (i + 1) selected))
     ∙ ap (λ xs. made ++ entries_after level below xs) (sym (drop_more selected i no_row there))
     ∙ so_far
@@ -64,7 +64,7 @@ one_pushed level below selected i rows rows' d q4 whole there so_far pushed d_is
     let same : map entry_of rows' ≡ map entry_of rows ++ entry_of item ∷ [] = ap (map entry_of) pushed ∙ map_push entry_of rows item in
     let entry : entry_of item ≡ entry_after level below row (drop (i + 1) selected) = cc (d_is, q4_is) in
     ap (λ (xs : List StripEntry). xs ++ entries_after level (Some row.strike) (drop (i + 1) selected)) (same ∙ ap (λ (e : StripEntry). map entry_of rows ++ e ∷ []) entry)
-    ∙ one_more level below selected i (map entry_of rows) whole there so_far
+    ∙ entries_one_more level below selected i (map entry_of rows) whole there so_far
 
 -- ---- the entries of rising, lawful rows are in range
 
@@ -97,14 +97,14 @@ entry_in_range level below row rest lawful least greatest = record {
   q4_max = price_in_range level row lawful;
 }
 
-in_range_after : (level b : ℕ) (rows : List StrikeRow) → StrikesRise rows → All IsLawfulRow rows → All (λ row. b < row.strike) rows → All IsEntryInRange (entries_after level (Some b) rows)
-in_range_after level b [] rise lawful above = All-nil IsEntryInRange
-in_range_after level b (r ∷ []) rise lawful above =
+entries_after_in_range : (level b : ℕ) (rows : List StrikeRow) → StrikesRise rows → All IsLawfulRow rows → All (λ row. b < row.strike) rows → All IsEntryInRange (entries_after level (Some b) rows)
+entries_after_in_range level b [] rise lawful above = All-nil IsEntryInRange
+entries_after_in_range level b (r ∷ []) rise lawful above =
     let mine : IsLawfulRow r = All-head IsLawfulRow r [] lawful in
     let over : b < r.strike = All-head (λ row. b < row.strike) r [] above in
     let most = mine.strike_max in
     All-cons IsEntryInRange (entry_after level (Some b) r []) [] (entry_in_range level (Some b) r [] mine (omega arith) (omega arith)) (All-nil IsEntryInRange)
-in_range_after level b (r ∷ (s ∷ rest)) rise lawful above =
+entries_after_in_range level b (r ∷ (s ∷ rest)) rise lawful above =
     let mine : IsLawfulRow r = All-head IsLawfulRow r (s ∷ rest) lawful in
     let over : b < r.strike = All-head (λ row. b < row.strike) r (s ∷ rest) above in
     let later : All IsLawfulRow (s ∷ rest) = All-tail IsLawfulRow r (s ∷ rest) lawful in
@@ -113,7 +113,7 @@ in_range_after level b (r ∷ (s ∷ rest)) rise lawful above =
     let under : r.strike < s.strike = All-head (λ row. r.strike < row.strike) s rest behind in
     let most = next.strike_max in
     All-cons IsEntryInRange (entry_after level (Some b) r (s ∷ rest)) (entries_after level (Some r.strike) (s ∷ rest)) (entry_in_range level (Some b) r (s ∷ rest) mine (omega arith) (omega arith))
-    (in_range_after level r.strike (s ∷ rest) (pairs_tail (λ x y. x.strike < y.strike) r (s ∷ rest) rise) later behind)
+    (entries_after_in_range level r.strike (s ∷ rest) (pairs_tail (λ x y. x.strike < y.strike) r (s ∷ rest) rise) later behind)
 
 in_range_from_two : (level : ℕ) (rows : List StrikeRow) → 2 ≤ length rows → StrikesRise rows → All IsLawfulRow rows → All IsEntryInRange (entries_after level None rows)
 in_range_from_two level [] two rise lawful = absurd (omega arith)
@@ -127,7 +127,7 @@ in_range_from_two level (r ∷ (s ∷ rest)) two rise lawful =
     let most = next.strike_max in
     let least = mine.strike_min in
     All-cons IsEntryInRange (entry_after level None r (s ∷ rest)) (entries_after level (Some r.strike) (s ∷ rest)) (entry_in_range level None r (s ∷ rest) mine (omega arith) (omega arith))
-    (in_range_after level r.strike (s ∷ rest) (pairs_tail (λ x y. x.strike < y.strike) r (s ∷ rest) rise) later behind)
+    (entries_after_in_range level r.strike (s ∷ rest) (pairs_tail (λ x y. x.strike < y.strike) r (s ∷ rest) rise) later behind)
 
 -- ---- from the entries to the rows that write them
 
@@ -148,24 +148,24 @@ strikes_made : (level : ℕ) (below : Option ℕ) (selected : List StrikeRow) �
 strikes_made level below [] = refl
 strikes_made level below (r ∷ rest) = ap (λ xs. r.strike ∷ xs) (strikes_made level (Some r.strike) rest)
 
-strikes_written : (rows : List StripRow) → map (λ e. e.strike) (map entry_of rows) ≡ map (λ row. row.strike) rows
-strikes_written [] = refl
-strikes_written (r ∷ rest) = ap (λ xs. r.strike ∷ xs) (strikes_written rest)
+entry_strikes_are : (rows : List StripRow) → map (λ e. e.strike) (map entry_of rows) ≡ map (λ row. row.strike) rows
+entry_strikes_are [] = refl
+entry_strikes_are (r ∷ rest) = ap (λ xs. r.strike ∷ xs) (entry_strikes_are rest)
 
-pub same_strikes : (level : ℕ) (rows : List StripRow) (selected : List StrikeRow) → map entry_of rows ≡ entries_after level None selected → map (λ row. row.strike) rows ≡ strikes selected
-same_strikes level rows selected made = sym (strikes_written rows) ∙ ap (map (λ e. e.strike)) made ∙ strikes_made level None selected
+pub strip_strikes_are : (level : ℕ) (rows : List StripRow) (selected : List StrikeRow) → map entry_of rows ≡ entries_after level None selected → map (λ row. row.strike) rows ≡ strikes selected
+strip_strikes_are level rows selected made = sym (entry_strikes_are rows) ∙ ap (map (λ e. e.strike)) made ∙ strikes_made level None selected
 
 pub same_length : (level : ℕ) (rows : List StripRow) (selected : List StrikeRow) → map entry_of rows ≡ entries_after level None selected → length rows ≡ length selected
 same_length level rows selected made =
-    sym (length-map rows (λ row. row.strike)) ∙ ap length (same_strikes level rows selected made) ∙ length-map selected (λ row. row.strike)
+    sym (length-map rows (λ row. row.strike)) ∙ ap length (strip_strikes_are level rows selected made) ∙ length-map selected (λ row. row.strike)
 
-pub rows_rise : (level : ℕ) (rows : List StripRow) (selected : List StrikeRow) → map entry_of rows ≡ entries_after level None selected → StrikesRise selected → AllPairs (λ a b. a.strike < b.strike) rows
-rows_rise level rows selected made rise = λ i j d below there.
+pub strip_rows_rise : (level : ℕ) (rows : List StripRow) (selected : List StrikeRow) → map entry_of rows ≡ entries_after level None selected → StrikesRise selected → AllPairs (λ a b. a.strike < b.strike) rows
+strip_rows_rise level rows selected made rise = λ i j d below there.
     let len : length rows ≡ length selected = same_length level rows selected made in
     let at : (k : ℕ) → k < length rows → (get_or rows k d).strike ≡ (get_or selected k no_row).strike =
     λ k low.
     sym (get_or-map (λ row. row.strike) rows k d 0 low)
-    ∙ ap (λ (xs : List ℕ). get_or xs k 0) (same_strikes level rows selected made)
+    ∙ ap (λ (xs : List ℕ). get_or xs k 0) (strip_strikes_are level rows selected made)
     ∙ get_or-map (λ row. row.strike) selected k no_row 0 (omega arith) in
     let less : (get_or selected i no_row).strike < (get_or selected j no_row).strike = rise i j no_row below (omega arith) in
     omega (arith, at i (omega arith), at j there)

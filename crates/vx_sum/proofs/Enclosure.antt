@@ -29,8 +29,8 @@ one_apart n m positive =
     let less : (n + (m - 1)) / m < n / m + 2 = (div-lt_iff_lt-mul {k = m} {x = n + (m - 1)} {y = n / m + 2} positive).1 (omega (arith, next)) in
     omega (arith, less)
 
-divisor_positive : (row : StripRow) → IsRowInRange row → 0 < 4 * (row.strike * row.strike)
-divisor_positive row h =
+contribution_divisor_positive : (row : StripRow) → IsRowInRange row → 0 < 4 * (row.strike * row.strike)
+contribution_divisor_positive row h =
     let least = h.strike.0 in
     let one : 1 ≤ row.strike = omega (arith, least) in
     let square : 1 * 1 ≤ row.strike * row.strike = mul-le-mul one one in
@@ -44,7 +44,7 @@ unfolding unit
 row_encloses P row h =
     let n = 5 * (row.d * row.q4) * 2 ^ P in
     let m = 4 * (row.strike * row.strike) in
-    let positive = divisor_positive row h in
+    let positive = contribution_divisor_positive row h in
     let low = below_dividend n m positive in
     let high = above_dividend n m positive in
     member P (row_total P row) (contribution (entry_of row)) (omega (arith, positive)) (omega (arith, ints, low)) (omega (arith, ints, high))
@@ -71,7 +71,7 @@ total_encloses P (r ∷ rows) all =
 totals_apart : (P : ℕ) (rows : List StripRow) → All IsRowInRange rows → upper_total P (map entry_of rows) ≤ lower_total P (map entry_of rows) + length rows
 totals_apart P [] all = omega arith
 totals_apart P (r ∷ rows) all =
-    let first : upper_end P (entry_of r) ≤ lower_end P (entry_of r) + 1 = one_apart (5 * (r.d * r.q4) * 2 ^ P) (4 * (r.strike * r.strike)) (divisor_positive r (All-head IsRowInRange r rows all)) in
+    let first : upper_end P (entry_of r) ≤ lower_end P (entry_of r) + 1 = one_apart (5 * (r.d * r.q4) * 2 ^ P) (4 * (r.strike * r.strike)) (contribution_divisor_positive r (All-head IsRowInRange r rows all)) in
     let rest : upper_total P (map entry_of rows) ≤ lower_total P (map entry_of rows) + length rows = totals_apart P rows (All-tail IsRowInRange r rows all) in
     let lower : lower_total P (map entry_of (r ∷ rows)) ≡ lower_end P (entry_of r) + lower_total P (map entry_of rows) = sum_by-cons (lower_end P) (entry_of r) (map entry_of rows) in
     let upper : upper_total P (map entry_of (r ∷ rows)) ≡ upper_end P (entry_of r) + upper_total P (map entry_of rows) = sum_by-cons (upper_end P) (entry_of r) (map entry_of rows) in

@@ -1,5 +1,5 @@
 -- One walk over two rising lists finds the rows that are kept.
-use Rattle.std.proofs.Common.{◌≡◌, ℕ, ◌<◌, ◌≤◌, Bool, true, false, not, ◌&&◌, eqb, List, length, get_or, slice_get, Option, Some, None, map, refl, sym, ◌∙◌, ap, subst, inl, inr, arith}
+use Rattle.std.proofs.Common.{◌≡◌, ℕ, ◌<◌, ◌≤◌, true, false, not, ◌&&◌, eqb, List, length, get_or, slice_get, Option, Some, None, map, refl, sym, ◌∙◌, ap, subst, inl, inr, arith}
 use Rattle.std.specs.List.{AllPairs, list_any}
 use Rattle.std.proofs.lemmas.Bool.{and_parts, eqb-true, cases_order, false≢true}
 use Rattle.std.proofs.lemmas.Option.{slice_get_within, get_or_from_slice_get, slice_get-get_or}
@@ -7,6 +7,7 @@ use Rattle.std.proofs.lemmas.List.{get_or-map, length-map}
 use Rattle.std.proofs.lemmas.List.Folds.{Any-from_list_any, list_any_at}
 use Rattle.vx_formula.specs.Strip.{StripEntry}
 use Rattle.vx_formula.specs.Touched.{is_same_entry, is_touched}
+use Rattle.vx_formula.proofs.Walks.{same_tests}
 use Rattle.vx_strip.specs.declared.strip.StripRow.{StripRow}
 use Rattle.vx_strip.specs.Entries.{entry_of}
 use Rattle.vx_sum.specs.declared.sum.SumRow.{SumRow}
@@ -24,8 +25,8 @@ same_fields a b strike d q4 =
     ∙ ap (λ (k : ℕ). let e : StripEntry = record { strike = b.strike; d = b.d; q4 = k } in e) q4
 
 -- entries that the test calls the same are the same
-same_entry : (a b : StripEntry) → is_same_entry a b ≡ true → a ≡ b
-same_entry a b h =
+entry_from_same : (a b : StripEntry) → is_same_entry a b ≡ true → a ≡ b
+entry_from_same a b h =
     let outer = and_parts (eqb a.strike b.strike && eqb a.d b.d) (eqb a.q4 b.q4) h in
     let inner = and_parts (eqb a.strike b.strike) (eqb a.d b.d) outer.0 in
     same_fields a b (eqb-true a.strike b.strike inner.0) (eqb-true a.d b.d inner.1) (eqb-true a.q4 b.q4 outer.1)
@@ -41,7 +42,7 @@ kept_row_ends P kept ends place d row belong h =
     let found = found_row (slice_get kept place) row h in
     let low : place < length kept = slice_get_within kept place found.0 found.1 in
     let low' : place < length (map entry_of kept) = omega (arith, length-map kept entry_of) in
-    let same : entry_of row ≡ entry_of found.0 = same_entry (entry_of row) (entry_of found.0) found.2 in
+    let same : entry_of row ≡ entry_of found.0 = entry_from_same (entry_of row) (entry_of found.0) found.2 in
     ap (λ (xs : List SumRow). get_or xs place d) belong
     ∙ get_or-map (row_ends P) (map entry_of kept) place (entry_of found.0) d low'
     ∙ ap (row_ends P) (get_or-map entry_of kept place found.0 (entry_of found.0) low ∙ ap entry_of (get_or_from_slice_get kept place found.0 found.0 found.1) ∙ sym same)
@@ -55,12 +56,6 @@ rises rows i j a b rise p q below =
     let P : StripRow → StripRow → Type 0 = λ x y. x.strike < y.strike in
     let first : P a (get_or rows j a) = subst (λ x. P x (get_or rows j a)) (get_or_from_slice_get rows i a a p) (rise i j a below (slice_get_within rows j b q)) in
     subst (λ y. P a y) (get_or_from_slice_get rows j b a q) first
-
-same_tests : (a b : Bool) → (a ≡ true → b ≡ true) → (b ≡ true → a ≡ true) → a ≡ b
-same_tests true true f g = refl
-same_tests true false f g = sym (f refl)
-same_tests false true f g = g refl
-same_tests false false f g = refl
 
 module _ (kept : List StripRow) (place : ℕ) (row : StripRow) (rise : Rises kept) (before : (k : ℕ) (other : StripRow) → k < place → slice_get kept k ≡ Some other → other.strike < row.strike) (stops : (other : StripRow) → slice_get kept place ≡ Some other → row.strike ≤ other.strike) where
   -- a kept row of the same strike stands at the place
@@ -85,7 +80,7 @@ module _ (kept : List StripRow) (place : ℕ) (row : StripRow) (rise : Rises kep
       let is : slice_get kept any.0 ≡ Some other = slice_get-get_or kept any.0 row low in
       let entry : any.1 ≡ entry_of other = sym any.3 ∙ get_or-map entry_of kept any.0 row any.1 low in
       let same : is_same_entry (entry_of row) (entry_of other) ≡ true = subst (λ (e : StripEntry). is_same_entry (entry_of row) e ≡ true) entry any.4 in
-      let equal : entry_of row ≡ entry_of other = same_entry (entry_of row) (entry_of other) same in
+      let equal : entry_of row ≡ entry_of other = entry_from_same (entry_of row) (entry_of other) same in
       let here : any.0 ≡ place = only_here any.0 other low is (sym (ap (λ (e : StripEntry). e.strike) equal)) in
       let there : slice_get kept place ≡ Some other = ap (slice_get kept) (sym here) ∙ is in
       ap (λ (o : Option StripRow). is_found o row) there ∙ same

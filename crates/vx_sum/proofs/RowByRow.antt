@@ -49,8 +49,8 @@ row_small P row scale h =
 
 -- ---- one row on
 
-pub total_more : (f : StripEntry → ℕ) (rows : List StripRow) (i old new x : ℕ) → i < length rows → old ≡ sum_by f (map entry_of (take i rows)) → new ≡ old + x → x ≡ f (entry_of (get_or rows i no_row)) → new ≡ sum_by f (map entry_of (take (i + 1) rows))
-total_more f rows i old new x low so_far sum is =
+pub sum_by_more : (f : StripEntry → ℕ) (rows : List StripRow) (i old new x : ℕ) → i < length rows → old ≡ sum_by f (map entry_of (take i rows)) → new ≡ old + x → x ≡ f (entry_of (get_or rows i no_row)) → new ≡ sum_by f (map entry_of (take (i + 1) rows))
+sum_by_more f rows i old new x low so_far sum is =
     let more : sum_by f (map entry_of (take (i + 1) rows)) ≡ sum_by f (map entry_of (take i rows)) + f (entry_of (get_or rows i no_row)) =
     ap (sum_by f) (map_more entry_of rows i no_row low) ∙ sum_by_push f (map entry_of (take i rows)) (entry_of (get_or rows i no_row)) in
     omega (arith, more, so_far, sum, is)
@@ -118,11 +118,11 @@ step_of : (b t : Bool) → t ≡ not b → cond b 0 1 ≡ as_step t
 step_of true t is = sym (ap as_step is)
 step_of false t is = sym (ap as_step is)
 
-pub count_more : (kept rows : List StripRow) (place place' i start steps steps' : ℕ) → i < length rows → Rises kept → IsPassed kept place rows i → IsFirstFrom kept place (get_or rows i no_row).strike place'
+pub touched_more : (kept rows : List StripRow) (place place' i start steps steps' : ℕ) → i < length rows → Rises kept → IsPassed kept place rows i → IsFirstFrom kept place (get_or rows i no_row).strike place'
     → steps ≡ start + touched_count (map entry_of kept) (map entry_of (take i rows))
     → steps' ≡ steps + cond (is_kept_at kept place' (get_or rows i no_row)) 0 1
     → steps' ≡ start + touched_count (map entry_of kept) (map entry_of (take (i + 1) rows))
-count_more kept rows place place' i start steps steps' low rise passed first so_far step =
+touched_more kept rows place place' i start steps steps' low rise passed first so_far step =
     let f : StripEntry → ℕ = λ e. cond (is_touched (map entry_of kept) e) 1 0 in
     let mine : cond (is_kept_at kept place' (get_or rows i no_row)) 0 1 ≡ f (entry_of (get_or rows i no_row)) =
     step_of (is_kept_at kept place' (get_or rows i no_row)) (is_touched (map entry_of kept) (entry_of (get_or rows i no_row))) (touched_at kept rows place place' i low rise passed first) in

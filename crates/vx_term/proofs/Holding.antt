@@ -34,7 +34,7 @@ use Rattle.vx_term.specs.Runs.{ForwardSays, Says, TellsLevel, RefusesRows, IsRun
 use Rattle.vx_term.specs.Meaning.{term_of_run}
 use Rattle.vx_term.specs.Holds.{RunHolds, AtOneLevel, RefusalHolds, UndecidedHolds}
 use Rattle.vx_term.proofs.Variances.{excess_encloses, variance_encloses}
-use Rattle.vx_term.proofs.ToldLevels.{place_within, placed_is_level}
+use Rattle.vx_term.proofs.ToldLevels.{level_place_within, placed_is_level}
 
 module _ (P : ℕ) (rows : List StrikeRow) (e : Ends) where
   -- ---- the forward
@@ -120,7 +120,7 @@ two_selected k (row ∷ (next ∷ rest)) put call = omega arith
 
 module _ (P : ℕ) (rows : List StrikeRow) (e : Ends) (run : TermRun P) (lawful : AreLawfulRows rows) (h : IsRunOfRows P rows e run) where
   within : h.place < length rows
-  within = place_within P rows run.f h.place h.tells
+  within = level_place_within P rows run.f h.place h.tells
 
   -- its strip is in range
   pub run_strip_in_range : IsStripInRange run.strip

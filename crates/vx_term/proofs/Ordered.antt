@@ -58,8 +58,8 @@ mul_ordered P x y =
     let high = (greatest_at_least ll lh hl hh).0 in
     by_positive (least_product x y) (greatest_product x y) (unit P) (unit_positive P) (omega (arith, ints))
 
-square_ordered : (P : ℕ) (x : Ends) → AreInOrder (square_ends P x)
-square_ordered P x =
+square_ends_ordered : (P : ℕ) (x : Ends) → AreInOrder (square_ends P x)
+square_ends_ordered P x =
     let low = (least_is_least x).0 in
     let high = (greatest_is_greatest x).0 in
     by_positive (least_square x) (greatest_square x) (unit P) (unit_positive P) (omega (arith, ints))
@@ -69,7 +69,7 @@ square_ordered P x =
 pub variance_is_ordered : (P : ℕ) (e total excess : Ends) → AreInOrder (variance_ends P e total excess)
 variance_is_ordered P e total excess =
     sub_ordered (scale_ends (mul_ends P e total) (pos 2)) (square_ends P excess)
-    (scale_ordered (mul_ends P e total) (pos 2) (mul_ordered P e total)) (square_ordered P excess)
+    (scale_ordered (mul_ends P e total) (pos 2) (mul_ordered P e total)) (square_ends_ordered P excess)
 
 interpolated_ordered : (target n1 n2 : ℕ) (w1 w2 : Ends) → AreInOrder w1 → AreInOrder w2 → AreInOrder (interpolated_ends target w1 n1 w2 n2)
 interpolated_ordered target n1 n2 w1 w2 h k =

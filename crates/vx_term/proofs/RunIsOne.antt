@@ -48,13 +48,13 @@ exp_run_is_one P x a b h k =
 abbrev row_of : StripEntry → StripRow
 row_of entry = record { strike = entry.strike; d = entry.d; q4 = entry.q4 }
 
-rows_back : (rows : List StripRow) → map row_of (map entry_of rows) ≡ rows
-rows_back [] = refl
-rows_back (row ∷ rows) = ap (λ rest. row ∷ rest) (rows_back rows)
+rows_of_entries : (rows : List StripRow) → map row_of (map entry_of rows) ≡ rows
+rows_of_entries [] = refl
+rows_of_entries (row ∷ rows) = ap (λ rest. row ∷ rest) (rows_of_entries rows)
 
 pub strip_is_one : (a b : Strip) → entries_of a ≡ entries_of b → a ≡ b
 strip_is_one a b e =
-    let rows : a.rows ≡ b.rows = sym (rows_back a.rows) ∙ ap (map row_of) e ∙ rows_back b.rows in
+    let rows : a.rows ≡ b.rows = sym (rows_of_entries a.rows) ∙ ap (map row_of) e ∙ rows_of_entries b.rows in
     λ i. record { rows = rows i }
 
 pair_is_one : (rows : List StrikeRow) (a b : Pair) → StrikesRise rows → IsClosestPair rows (formula_pair a) → IsClosestPair rows (formula_pair b) → a ≡ b

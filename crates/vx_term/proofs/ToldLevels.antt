@@ -52,8 +52,8 @@ use Rattle.vx_term.specs.Exponential.{IsExpRun}
 use Rattle.vx_term.specs.Steps.{IsUpTo, IsExponentialInRange, IsTold, IsAnswerWithoutLevel, refusal_of_strip, refusal_of_sum}
 
 -- the strike of a row at a place is in range
-strike_in_range : (rows : List StrikeRow) (place : ℕ) (row : StrikeRow) → AreLawfulRows rows → slice_get rows place ≡ Some row → IsStrikeInRange row.strike
-strike_in_range rows place row lawful at =
+row_strike_in_range : (rows : List StrikeRow) (place : ℕ) (row : StrikeRow) → AreLawfulRows rows → slice_get rows place ≡ Some row → IsStrikeInRange row.strike
+row_strike_in_range rows place row lawful at =
     let one = subst IsLawfulRow (get_or_from_slice_get rows place row no_row at) (lawful.each place no_row (slice_get_within rows place row at)) in
     (one.strike_min, one.strike_max)
 
@@ -74,7 +74,7 @@ row_is_level P rows f place lawful row h some =
     let more : pos (2 * row.strike) <ℤ pos other = mul_cancel_strict (pos (2 * row.strike)) (pos other) (unit P) p (omega (arith, ints)) in
     omega (arith, ints) in
     record {
-      strike = strike_in_range rows place row lawful g.is_at;
+      strike = row_strike_in_range rows place row lawful g.is_at;
       at_least = below.0;
       at_most_twice = by_lt_z f.hi (pos (2 * row.strike) *ℤ unit P) (λ q. omega (arith, ints)) (λ most. absurd (some (none most)));
     }
@@ -117,8 +117,8 @@ pub at_most_two : (P : ℕ) (e : Ends) → IsExponentialInRange P e → e.hi ≤
 at_most_two P e h = let p = unit_positive P in let a = h.high in omega (arith, ints)
 
 -- the place of a level is a row's
-pub place_within : (P : ℕ) (rows : List StrikeRow) (f : Ends) (place : ℕ) → ForwardSays P rows f (level.At place) → place < length rows
-place_within P rows f place said = let row = said.0 in let is = said.1 in let g = is.greatest in slice_get_within rows place row g.is_at
+pub level_place_within : (P : ℕ) (rows : List StrikeRow) (f : Ends) (place : ℕ) → ForwardSays P rows f (level.At place) → place < length rows
+level_place_within P rows f place said = let row = said.0 in let is = said.1 in let g = is.greatest in slice_get_within rows place row g.is_at
 
 -- ---- the answer of a term is that of its rows at the rate that stands
 

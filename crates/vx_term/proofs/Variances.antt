@@ -12,8 +12,8 @@ use Rattle.vx_interval.proofs.RoundingLemmas.{floor_of_is, ceiling_of_is}
 use Rattle.vx_interval.proofs.Enclosures.{exact_encloses, sub_encloses, scale_encloses, mul_encloses, over_encloses, least_above, greatest_below}
 use Rattle.vx_interval.proofs.Squares.{square_encloses, least_nonneg, greatest_is_at_most}
 use Rattle.vx_interval.proofs.Widths.{within}
-use Rattle.vx_interval.proofs.Ranges.{unit_up}
-use Rattle.vx_forward.proofs.ForwardLemmas.{unit_at_most, strike_in_range}
+use Rattle.vx_interval.proofs.Ranges.{unit_up, unit_at_most}
+use Rattle.vx_forward.proofs.ForwardLemmas.{exact_strike_in_range}
 use Rattle.vx_term.specs.Steps.{IsUpTo, IsExponentialInRange}
 use Rattle.vx_term.specs.Variance.{excess_ends, variance_ends}
 
@@ -30,7 +30,7 @@ module _ (P k : ℕ) (f : Ends) (at_least : (pos k *ℤ unit P) ≤ℤ f.lo) (or
 
   pub above_range : IsScale P → k ≤ 50000000 → IsInRange above
   above_range s h =
-      let r = strike_in_range P k s h in
+      let r = exact_strike_in_range P k s h in
       let a = r.low in let b = r.high in
       let c = above_up_to.low in let d = above_up_to.high in
       record { low = omega (arith, ints); high = omega (arith, ints) }

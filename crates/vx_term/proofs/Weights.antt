@@ -11,7 +11,7 @@ use Rattle.vx_interval.specs.Membership.{IsMember}
 use Rattle.vx_interval.proofs.EndsLemmas.{unit_positive}
 use Rattle.vx_interval.proofs.RoundingLemmas.{floor_of_is, ceiling_of_is}
 use Rattle.vx_interval.proofs.Enclosures.{add_encloses, scale_encloses, over_encloses}
-use Rattle.vx_forward.proofs.ForwardLemmas.{unit_at_most}
+use Rattle.vx_interval.proofs.Ranges.{unit_at_most}
 use Rattle.vx_formula.specs.Index.{index_square, single_square}
 use Rattle.vx_term.specs.Index.{interpolated_ends, single_ends}
 use Rattle.vx_term.specs.Ranges.{IsWithin, IsVarianceInRange, IsSquareInRange}

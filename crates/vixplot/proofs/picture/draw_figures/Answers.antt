@@ -3,7 +3,7 @@ use Rattle.std.proofs.Common.{◌-◌, length}
 use Rattle.std.proofs.lemmas.List.Elements.{All-contains}
 use Rattle.vixplot.specs.Days.{figures_of}
 use Rattle.vixplot.specs.Pictures.{IsInPicture}
-use Rattle.vixplot.proofs.FigureLemmas.{all_in_picture, at_place}
+use Rattle.vixplot.proofs.FigureLemmas.{all_in_picture, holds_at_place}
 use Rattle.vixplot.proofs.picture.draw_figures.Goals as goal
 
 pub draw_mark-requires : goal.draw_mark-requires
@@ -18,10 +18,10 @@ draw_mark-requires-2 g c =
 
 pub draw_mark-requires-3 : goal.draw_mark-requires-3
 draw_mark-requires-3 g c =
-    at_place (IsInPicture c.args.times.now c.scale_of-scale.result) (figures_of c.args.ticks.now) 0 c.args.marks.now.first
+    holds_at_place (IsInPicture c.args.times.now c.scale_of-scale.result) (figures_of c.args.ticks.now) 0 c.args.marks.now.first
     (all_in_picture c.args.times.now c.scale_of-scale.result c.args.ticks.now c.requires.times c.scale_of-scale.ensures.figures) c.requires.marks.first
 
 pub draw_mark-requires-4 : goal.draw_mark-requires-4
 draw_mark-requires-4 g c =
-    at_place (IsInPicture c.args.times.now c.scale_of-scale.result) (figures_of c.args.ticks.now) (length (figures_of c.args.ticks.now) - 1) c.args.marks.now.last
+    holds_at_place (IsInPicture c.args.times.now c.scale_of-scale.result) (figures_of c.args.ticks.now) (length (figures_of c.args.ticks.now) - 1) c.args.marks.now.last
     (all_in_picture c.args.times.now c.scale_of-scale.result c.args.ticks.now c.requires.times c.scale_of-scale.ensures.figures) c.requires.marks.last

@@ -2,7 +2,7 @@ use Rattle.std.proofs.Common.{◌≡◌, ◌∙◌, ℕ, ◌^◌, pos, nat_abs, 
 use Rattle.std.proofs.lemmas.Int.{ints}
 use Rattle.vx_interval.specs.Ends.{Ends, unit}
 use Rattle.vx_interval.proofs.EndsLemmas.{same_ends, unit_positive}
-use Rattle.vx_interval.proofs.Ranges.{cast, cast_is, pair_in_range}
+use Rattle.vx_interval.proofs.Ranges.{cast, cast_is, passed_ends_in_range}
 use Rattle.vx_bounds.specs.Exponential.{IsTerms, IsTightValue, low_term, high_term, low_end, high_end}
 use Rattle.vx_bounds.proofs.Values.{signed_encloses}
 use Rattle.vx_bounds.proofs.Signed.{signed_is_good, signed_of_nonneg, square_fits, square_is, negative_found, positive_high, positive_low, negative_sign}
@@ -64,7 +64,7 @@ new-value-requires g c =
       search rules,
       (
         c.requires.scale,
-        pair_in_range c.div_floor-low.result c.div_ceil-high.result _ _ c.div_floor-low.type_inv c.div_ceil-high.type_inv f.low_is f.high_is (i.in_range.low, i.ordered, i.in_range.high),
+        passed_ends_in_range c.div_floor-low.result c.div_ceil-high.result _ _ c.div_floor-low.type_inv c.div_ceil-high.type_inv f.low_is f.high_is (i.in_range.low, i.ordered, i.in_range.high),
       ),
     )
 

@@ -3,8 +3,8 @@ use Rattle.std.proofs.lemmas.Int.{ints}
 use mir.Syntax.{w64}
 use Rattle.vx_interval.specs.Ends.{unit}
 use Rattle.vx_interval.proofs.EndsLemmas.{unit_positive}
-use Rattle.vx_interval.proofs.Ranges.{cast, cast_is}
-use Rattle.vx_bounds.proofs.Roots.{dividend_fits, dividend_is, floor_bound, ceiling_bound, unit_at_most, floor_given, ceiling_given, small_given, greatest_given, least_given, bound_given}
+use Rattle.vx_interval.proofs.Ranges.{cast, cast_is, unit_at_most}
+use Rattle.vx_bounds.proofs.Roots.{dividend_fits, dividend_is, floor_bound, ceiling_bound, floor_given, ceiling_given, small_given, greatest_given, least_given, bound_given}
 use Rattle.vx_bounds.proofs.root.root_ends.Goals as goal
 
 pub overflow_mul-lo : goal.overflow_mul-lo

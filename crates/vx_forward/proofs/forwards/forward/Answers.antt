@@ -1,7 +1,7 @@
 use Rattle.std.proofs.Common.{◌∙◌, pos, ◌*ℤ◌, ℤ, sym, subst, rules}
 use Rattle.vx_interval.specs.Ends.{exact_ends, scale_ends, IsInRange}
 use Rattle.vx_forward.specs.Pairs.{formula_pair}
-use Rattle.vx_forward.proofs.ForwardLemmas.{five_given, strike_given, sum_given, five_is_small, spread_in_range, strike_in_range, sum_in_range, forward_in_range, forward_encloses, forward_width}
+use Rattle.vx_forward.proofs.ForwardLemmas.{five_given, strike_given, sum_given, five_is_small, spread_in_range, exact_strike_in_range, sum_in_range, forward_in_range, forward_encloses, forward_width}
 use Rattle.vx_forward.proofs.forwards.forward.Goals as goal
 
 pub scale-spread-requires : goal.scale-spread-requires
@@ -21,7 +21,7 @@ exact-strike-requires g c =
       (
         i.scale,
         subst P (sym (strike_given c.from.result c.args.pair.now.strike c.from.type_inv c.from.ensures))
-            (strike_in_range g.row.P c.args.pair.now.strike i.scale c.requires.strike.1),
+            (exact_strike_in_range g.row.P c.args.pair.now.strike i.scale c.requires.strike.1),
       ),
     )
 

@@ -5,7 +5,7 @@ use Rattle.vx_interval.specs.Rounding.{floor_of, ceiling_of}
 use Rattle.vx_interval.specs.Ends.{unit}
 use Rattle.vx_interval.proofs.EndsLemmas.{unit_positive}
 use Rattle.vx_interval.proofs.Ranges.{cast, cast_is}
-use Rattle.vx_forward.proofs.ForwardLemmas.{end_is_small, small_given, positive_given}
+use Rattle.vx_forward.proofs.ForwardLemmas.{end_is_small, small_end_given, positive_given}
 use Rattle.vx_forward.proofs.forwards.forward_ends.Goals as goal
 
 pub printed_low-requires-clause-small : goal.printed_low-requires-clause-small
@@ -14,7 +14,7 @@ printed_low-requires-clause-small g c =
     let order = i.ordered in
     let low = c.requires.low in
     let high = c.requires.high in
-    small_given c.args.f.now.lo (cast c.lo-lo.result) (cast_is c.lo-lo.result c.args.f.now.lo c.lo-lo.type_inv c.lo-lo.ensures.value)
+    small_end_given c.args.f.now.lo (cast c.lo-lo.result) (cast_is c.lo-lo.result c.args.f.now.lo c.lo-lo.type_inv c.lo-lo.ensures.value)
     (end_is_small g.row.P c.args.f.now.lo i.scale low (omega (arith, ints)))
 
 pub printed_low-requires-clause-scale : goal.printed_low-requires-clause-scale
@@ -27,7 +27,7 @@ printed_high-requires-clause-small g c =
     let order = i.ordered in
     let low = c.requires.low in
     let high = c.requires.high in
-    small_given c.args.f.now.hi (cast c.hi-hi.result) (cast_is c.hi-hi.result c.args.f.now.hi c.hi-hi.type_inv c.hi-hi.ensures.value)
+    small_end_given c.args.f.now.hi (cast c.hi-hi.result) (cast_is c.hi-hi.result c.args.f.now.hi c.hi-hi.type_inv c.hi-hi.ensures.value)
     (end_is_small g.row.P c.args.f.now.hi i.scale (omega (arith, ints)) high)
 
 pub printed_high-requires-clause-scale : goal.printed_high-requires-clause-scale

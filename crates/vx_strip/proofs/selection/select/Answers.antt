@@ -3,7 +3,7 @@ use Rattle.vx_formula.specs.Selection.{selected_rows}
 use Rattle.vx_formula.specs.Strip.{entries_after}
 use Rattle.vx_strip.specs.Entries.{entry_of, strike_at}
 use Rattle.vx_formula.proofs.Walks.{no_row}
-use Rattle.vx_strip.proofs.Widths.{rows_in_range, same_length, rows_rise}
+use Rattle.vx_strip.proofs.Widths.{rows_in_range, same_length, strip_rows_rise}
 use Rattle.vx_strip.proofs.Sides.{has_money, selected_rise, selected_lawful, no_put, no_call, has_put, has_call, three_rows, as_many_at_most}
 use Rattle.vx_strip.proofs.selection.select.Goals as goal
 
@@ -57,7 +57,7 @@ pub returns-clause-rising : goal.returns-clause-rising
 returns-clause-rising c =
     let is : c.deref-3.result.now ≡ selected_rows c.args.term.now.rows.now (strike_at c.args.term.now.rows.now c.args.k0) = search rules in
     let made : map entry_of c.in_ok-rows.rows ≡ entries_after (get_or c.args.term.now.rows.now c.args.k0 no_row).strike None c.deref-3.result.now = search rules in
-    rows_rise (get_or c.args.term.now.rows.now c.args.k0 no_row).strike c.in_ok-rows.rows c.deref-3.result.now made
+    strip_rows_rise (get_or c.args.term.now.rows.now c.args.k0 no_row).strike c.in_ok-rows.rows c.deref-3.result.now made
     (selected_rise c.args.term.now.rows.now c.args.k0 c.deref-3.result.now c.requires.lawful.rows c.requires.listed is)
 
 pub returns-clause-in_range : goal.returns-clause-in_range

@@ -3,11 +3,11 @@ use Rattle.vx_strip.specs.declared.strip.Strip.{Strip}
 use Rattle.vx_strip.specs.Entries.{strike_at}
 use Rattle.vx_term.specs.KeptAfter.{SelectsStrip}
 use Rattle.vx_term.proofs.KeptTerms.{selects_told, untouched_without_level, kept_of_error, kept_when_refused, kept_when_refreshed}
-use Rattle.vx_term.proofs.ToldLevels.{place_within, told_tells, answer_without_strip, answer_without_sum}
+use Rattle.vx_term.proofs.ToldLevels.{level_place_within, told_tells, answer_without_strip, answer_without_sum}
 use Rattle.vx_term.proofs.kept.answer_kept.Goals as goal
 
 pub select-requires-clause-listed : goal.select-requires-clause-listed
-select-requires-clause-listed g c = place_within g.row.P c.args.term.now.rows.now c.in-Ok.level.f c.in-Ok.level.place c.in-Ok.ensures.level.tells
+select-requires-clause-listed g c = level_place_within g.row.P c.args.term.now.rows.now c.in-Ok.level.f c.in-Ok.level.place c.in-Ok.ensures.level.tells
 
 pub returns-in-Err-clause-kept : goal.returns-in-Err-clause-kept
 returns-in-Err-clause-kept g c =

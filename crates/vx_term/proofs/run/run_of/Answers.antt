@@ -1,10 +1,10 @@
 use Rattle.std.proofs.Common.{rules}
 use Rattle.vx_strip.specs.Entries.{entries_of}
-use Rattle.vx_term.proofs.ToldLevels.{told_is_level, place_within, total_up_to, total_interval}
+use Rattle.vx_term.proofs.ToldLevels.{told_is_level, level_place_within, total_up_to, total_interval}
 use Rattle.vx_term.proofs.run.run_of.Goals as goal
 
 pub strike_at-k0-requires : goal.strike_at-k0-requires
-strike_at-k0-requires g c = place_within g.row.P c.args.term.now.rows.now c.args.level.f c.args.level.place c.requires.told.tells
+strike_at-k0-requires g c = level_place_within g.row.P c.args.term.now.rows.now c.args.level.f c.args.level.place c.requires.told.tells
 
 pub excess_of-g-requires : goal.excess_of-g-requires
 excess_of-g-requires g c =

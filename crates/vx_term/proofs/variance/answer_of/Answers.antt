@@ -1,10 +1,10 @@
 use Rattle.std.proofs.Common.{◌∙◌, sym}
 use Rattle.vx_strip.specs.Entries.{strike_at}
-use Rattle.vx_term.proofs.ToldLevels.{place_within, told_tells, answer_without_strip, answer_without_sum}
+use Rattle.vx_term.proofs.ToldLevels.{level_place_within, told_tells, answer_without_strip, answer_without_sum}
 use Rattle.vx_term.proofs.variance.answer_of.Goals as goal
 
 pub select-requires-clause-listed : goal.select-requires-clause-listed
-select-requires-clause-listed g c = place_within g.row.P c.args.term.now.rows.now c.in-Ok.level.f c.in-Ok.level.place c.in-Ok.ensures.level.tells
+select-requires-clause-listed g c = level_place_within g.row.P c.args.term.now.rows.now c.in-Ok.level.f c.in-Ok.level.place c.in-Ok.ensures.level.tells
 
 pub returns-in-Err-select-clause-answer : goal.returns-in-Err-select-clause-answer
 returns-in-Err-select-clause-answer g c =

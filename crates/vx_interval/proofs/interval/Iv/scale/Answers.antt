@@ -4,7 +4,7 @@ use mir.Syntax.{w128}
 use Rattle.vx_interval.proofs.EndsLemmas.{same_ends}
 use Rattle.vx_interval.proofs.Enclosures.{scale_encloses}
 use Rattle.vx_interval.proofs.Widths.{scale_width}
-use Rattle.vx_interval.proofs.Ranges.{cast, cast_small, scale_ends_negative, scale_ends_nonneg, scale_range_negative, scale_range_nonneg, products_same, same_product, cast_is, pair_in_range}
+use Rattle.vx_interval.proofs.Ranges.{cast, cast_small, scale_ends_negative, scale_ends_nonneg, scale_range_negative, scale_range_nonneg, products_same, same_product, cast_is, passed_ends_in_range}
 use Rattle.vx_interval.proofs.interval.Iv.scale.Goals as goal
 
 pub times-requires : goal.times-requires
@@ -41,7 +41,7 @@ new-requires g c =
     let r = scale_range_negative c.args.self.now c.args.k sign c.lo-low.ensures.interval.ordered c.requires.in_range in
     let low = same_product (cast_small c.args.k) (cast c.hi-high.result) c.args.k c.args.self.now.hi c.times.result (to_z-of_z c.ranges.k) (to_z-of_z {w = w128} (record { sfits = c.hi-high.type_inv }) ∙ c.hi-high.ensures.value) c.times.ensures in
     let high = same_product (cast_small c.args.k) (cast c.lo-low.result) c.args.k c.args.self.now.lo c.times-then-k-lt0.result (to_z-of_z c.ranges.k) (to_z-of_z {w = w128} (record { sfits = c.lo-low.type_inv }) ∙ c.lo-low.ensures.value) c.times-then-k-lt0.ensures in
-    (search rules, (c.lo-low.ensures.interval.scale, pair_in_range c.times.result c.times-then-k-lt0.result _ _ c.times.type_inv c.times-then-k-lt0.type_inv low high r))
+    (search rules, (c.lo-low.ensures.interval.scale, passed_ends_in_range c.times.result c.times-then-k-lt0.result _ _ c.times.type_inv c.times-then-k-lt0.type_inv low high r))
 
 pub returns-then-k-lt0-clause-ends : goal.returns-then-k-lt0-clause-ends
 returns-then-k-lt0-clause-ends g c =
@@ -63,7 +63,7 @@ new-requires-else-k-lt0 g c =
     let r = scale_range_nonneg c.args.self.now c.args.k sign c.lo-low.ensures.interval.ordered c.requires.in_range in
     let low = same_product (cast_small c.args.k) (cast c.lo-low.result) c.args.k c.args.self.now.lo c.times-else-k-lt0.result (to_z-of_z c.ranges.k) (to_z-of_z {w = w128} (record { sfits = c.lo-low.type_inv }) ∙ c.lo-low.ensures.value) c.times-else-k-lt0.ensures in
     let high = same_product (cast_small c.args.k) (cast c.hi-high.result) c.args.k c.args.self.now.hi c.times-else-k-lt0-2.result (to_z-of_z c.ranges.k) (to_z-of_z {w = w128} (record { sfits = c.hi-high.type_inv }) ∙ c.hi-high.ensures.value) c.times-else-k-lt0-2.ensures in
-    (search rules, (c.lo-low.ensures.interval.scale, pair_in_range c.times-else-k-lt0.result c.times-else-k-lt0-2.result _ _ c.times-else-k-lt0.type_inv c.times-else-k-lt0-2.type_inv low high r))
+    (search rules, (c.lo-low.ensures.interval.scale, passed_ends_in_range c.times-else-k-lt0.result c.times-else-k-lt0-2.result _ _ c.times-else-k-lt0.type_inv c.times-else-k-lt0-2.type_inv low high r))
 
 pub returns-else-k-lt0-clause-ends : goal.returns-else-k-lt0-clause-ends
 returns-else-k-lt0-clause-ends g c =

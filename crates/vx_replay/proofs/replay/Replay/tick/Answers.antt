@@ -6,7 +6,7 @@ use Rattle.vx_replay.specs.StripsAfter.{Holding, AreKeptAfterAnswer}
 use Rattle.vx_replay.proofs.StripSteps.{answer_otherwise}
 use Rattle.vx_replay.proofs.TermsKept.{kept_of_error}
 use Rattle.vx_replay.proofs.TickSteps.{day_of, answer_next}
-use Rattle.vx_replay.proofs.NextReplay.{on_err, stands_still, steps_undeclared}
+use Rattle.vx_replay.proofs.NextReplay.{on_err, replay_stands_still, steps_undeclared}
 use Rattle.vx_replay.proofs.replay.Replay.tick.Goals as goal
 
 pub returns-in_err-apply-clause-refused : goal.returns-in_err-apply-clause-refused
@@ -15,7 +15,7 @@ returns-in_err-apply-clause-refused g c =
     let strips = c.answer_tick.new.kept in
     let few : length strips ≡ length old.kept.items = c.answer_tick.auto.kept ∙ ap (λ (l : List Holding). length l) c.as_mut_slice-kept.ensures.value in
     let same = with_items_is old.kept strips (few ∙ sym old.kept.ok.0) in
-    on_err c.from_residual-in_err-apply.result (stands_still old (record old { book = c.apply.new.self; kept = _ }) c.in_err-apply.ensures.refused
+    on_err c.from_residual-in_err-apply.result (replay_stands_still old (record old { book = c.apply.new.self; kept = _ }) c.in_err-apply.ensures.refused
     (ap (λ (l : List Holding). length l) same ∙ few))
 
 pub returns-in_err-apply-clause-kept : goal.returns-in_err-apply-clause-kept
