@@ -1,5 +1,6 @@
 -- Lines and their numbers: what stands behind a sign, and what a line of an undecided forward says.
-use Rattle.std.proofs.Common.{ℕ, ◌≡◌, ◌≢◌, ◌≤◌, ◌<◌, ◌∙◌, ◌==◌, Bool, true, false, List, [], ◌∷◌, length, drop, slice_index, slice_index_or, codes, if◌then◌else◌, map, Option, Some, None, MatchOption, Bor, unwrap_or, inl, inr, arith, ap, refl, sym}
+use Rattle.std.proofs.Common.{ℕ, ◌≡◌, ◌≢◌, ◌≤◌, ◌<◌, ◌∙◌, ◌==◌, Bool, true, false, List, [], ◌∷◌, length, drop, slice_index, slice_index_or, codes}
+use Rattle.std.proofs.Common.{if◌then◌else◌, map, Option, Some, None, MatchOption, Bor, unwrap_or, inl, inr, arith, ap, refl, sym}
 use Rattle.std.proofs.Math.ListN.{get_or-map}
 use Rattle.std.proofs.lemmas.List.{length-map}
 use Rattle.std.proofs.lemmas.Bool.Decides.{nat_tests}

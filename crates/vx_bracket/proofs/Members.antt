@@ -54,7 +54,8 @@ has_member_at n (pos p) q hq = (
 )
 has_member_at n (negsuc p) q hq = (
   natural (series_bottom q n) (series_top (suc p) q n),
-  down_bracket n p q (series_bottom q n) (series_top (suc p) q n) hq (bottom_positive q n hq) (top_positive (suc p) q n hq) (record { above_sum = le_refl (series_top (suc p) q n * series_bottom q n); below_upper = low_below_high (suc p) q n }),
+  down_bracket n p q (series_bottom q n) (series_top (suc p) q n) hq (bottom_positive q n hq) (top_positive (suc p) q n hq)
+  (record { above_sum = le_refl (series_top (suc p) q n * series_bottom q n); below_upper = low_below_high (suc p) q n }),
 )
 
 -- each bracket has a member
@@ -69,7 +70,9 @@ nest_cleared n m p q u v hq hp le h = record {
   below_upper = quotient_trans u v (upper_top p q m) (series_bottom q (suc m)) (upper_top p q n) (series_bottom q (suc n)) (bottom_positive q (suc m) hq) h.below_upper (high_nested p q n m hq hp le);
 }
 
-nest_at : (n m : ℕ) (x : ℤ) (q : ℕ) (u : ℤ) (v : ℕ) → 0 < q → nat_abs x ≤ q → n ≤ m → pos 0 <ℤ u → Bracket m (record { top = x; bottom = q }) (record { top = u; bottom = v }) → Bracket n (record { top = x; bottom = q }) (record { top = u; bottom = v })
+nest_at : (n m : ℕ) (x : ℤ) (q : ℕ) (u : ℤ) (v : ℕ) → 0 < q → nat_abs x ≤ q → n ≤ m → pos 0 <ℤ u
+    → Bracket m (record { top = x; bottom = q }) (record { top = u; bottom = v })
+    → Bracket n (record { top = x; bottom = q }) (record { top = u; bottom = v })
 nest_at n m x q (negsuc u) v hq hx le hu h = absurd (omega (arith, ints))
 nest_at n m (pos p) q (pos u) v hq hx le hu h = up_bracket n p q u v hq h.proper (nest_cleared n m p q u v hq hx le (bracket_up m p q u v hq h))
 nest_at n m (negsuc p) q (pos u) v hq hx le hu h = down_bracket n p q u v hq (omega (arith, ints)) h.proper (nest_cleared n m (suc p) q v u hq hx le (bracket_down m p q u v hq h))

@@ -9,7 +9,11 @@ use Rattle.vx_formula.specs.Pair.{Pair, IsAsClose}
 use Rattle.vx_formula.specs.Forward.{forward_at}
 use Rattle.vx_formula.specs.Level.{strikes}
 use Rattle.vx_formula.specs.Undecided.{Straddles}
-use Rattle.vx_formula.specs.Examples.{at_cents, row_at, at_rate_zero, tied_pair, tied_rows, StopsAtTwoZeroBids, PassesSingleZeroBids, TieTakesLowestStrike, TiedForward, TiedLevel, TiedHasNoPut, TwiceTheLevelCounts, MoreDoesNotCount, HalfCentStraddles, HalfCentBelongsAbove, NoneBelowHalfCent, ZeroStraddles, NoneBelowZero, HalfRoundsUp, StrikeIsBetween, OthersAreNot, SumOfTwo, SumAboveTwo, SampleStrip, SampleRounds, SampleIsBetween, AllAreTouched, NoneIsTouched, NeighboursAreTouched, BoughtGain, SoldLose, SoldMinisGain}
+use Rattle.vx_formula.specs.Examples.{at_cents, row_at, at_rate_zero, tied_pair, tied_rows, StopsAtTwoZeroBids, PassesSingleZeroBids}
+use Rattle.vx_formula.specs.Examples.{TieTakesLowestStrike, TiedForward, TiedLevel, TiedHasNoPut, TwiceTheLevelCounts, MoreDoesNotCount}
+use Rattle.vx_formula.specs.Examples.{HalfCentStraddles, HalfCentBelongsAbove, NoneBelowHalfCent, ZeroStraddles, NoneBelowZero, HalfRoundsUp}
+use Rattle.vx_formula.specs.Examples.{StrikeIsBetween, OthersAreNot, SumOfTwo, SumAboveTwo, SampleStrip, SampleRounds, SampleIsBetween, AllAreTouched}
+use Rattle.vx_formula.specs.Examples.{NoneIsTouched, NeighboursAreTouched, BoughtGain, SoldLose, SoldMinisGain}
 use Rattle.vx_formula.proofs.Lists.{In, in_from_contains}
 
 pub stops_at_two_zero_bids : StopsAtTwoZeroBids

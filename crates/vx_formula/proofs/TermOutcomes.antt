@@ -8,7 +8,9 @@ use Rattle.vx_symbol.specs.Rows.{IsRateInRange}
 use Rattle.vx_formula.specs.Pair.{Pair, live_pairs, IsClosestPair}
 use Rattle.vx_formula.specs.Term.{TermFacts, Term, IsTermOf, HasSmallExponent}
 use Rattle.vx_formula.specs.Level.{IsLevel}
-use Rattle.vx_formula.specs.Refusal.{IsBelowAll, HasNoneAbove, LacksMoney, HasNoPut, HasNoCall, IsTooLarge, AtLevel, HasNoneBelow, TermReason, no_rate, no_pair, no_strike_below, no_strike_above, no_money, no_put, no_call, strip_too_large, TermRefuses, term_place}
+use Rattle.vx_formula.specs.Refusal.{IsBelowAll, HasNoneAbove, LacksMoney, HasNoPut, HasNoCall, IsTooLarge, AtLevel, HasNoneBelow, TermReason}
+use Rattle.vx_formula.specs.Refusal.{no_rate, no_pair, no_strike_below, no_strike_above, no_money, no_put, no_call, strip_too_large, TermRefuses}
+use Rattle.vx_formula.specs.Refusal.{term_place}
 use Rattle.vx_formula.proofs.Lists.{in_from_contains}
 use Rattle.vx_formula.proofs.PairLemmas.{closest_pair_is_one, closest_pair_is_there}
 use Rattle.vx_formula.proofs.LevelLemmas.{level_is_one, level_is_not_below_all}

@@ -1,5 +1,6 @@
 -- What keeps the code's numbers in their type and the results in range. The code's values stand under casts, so each lemma takes them with the equations that the casts give.
-use Rattle.std.proofs.Common.{◌≡◌, ◌∙◌, ℕ, ◌+◌, ◌-◌, ◌*◌, ◌^◌, ◌<◌, ◌≤◌, ℤ, pos, negsuc, ◌*ℤ◌, neg_ℤ, nat_abs, ◌≤ℤ◌, ◌<ℤ◌, refl, sym, ap, ap₂, subst, arith, mul-le-mul, pow-add, lit<, lit≤, le_trans, le_refl, lt_of_le_of_lt, to_z, of_z, to_z-of_z}
+use Rattle.std.proofs.Common.{◌≡◌, ◌∙◌, ℕ, ◌+◌, ◌-◌, ◌*◌, ◌^◌, ◌<◌, ◌≤◌, ℤ, pos, negsuc, ◌*ℤ◌, neg_ℤ, nat_abs, ◌≤ℤ◌, ◌<ℤ◌, refl, sym, ap, ap₂, subst}
+use Rattle.std.proofs.Common.{arith, mul-le-mul, pow-add, lit<, lit≤, le_trans, le_refl, lt_of_le_of_lt, to_z, of_z, to_z-of_z}
 use Rattle.std.specs.Prelude.{FitsSigned}
 use Rattle.std.proofs.lemmas.Int.{ints, fits_signed_from_abs, unsigned_abs-mul}
 use lib.Signed.{mag}

@@ -109,13 +109,25 @@ product_spread x y hx hy =
     let hl : ℤ = x.hi *ℤ y.lo in
     let hh : ℤ = x.hi *ℤ y.hi in
     let from_ll : (ll -ℤ g) ≤ℤ least_of_four ll lh hl hh = least_above ll lh hl hh (ll -ℤ g)
-    (corner_gap x.lo y.lo x.lo y.lo m n v w a.0 b.0 p.ll q.ll) (corner_gap x.lo y.lo x.lo y.hi m n v w a.0 b.1 p.ll q.lh) (corner_gap x.lo y.lo x.hi y.lo m n v w a.0 b.0 p.lh q.ll) (corner_gap x.lo y.lo x.hi y.hi m n v w a.0 b.1 p.lh q.lh) in
+    (corner_gap x.lo y.lo x.lo y.lo m n v w a.0 b.0 p.ll q.ll)
+    (corner_gap x.lo y.lo x.lo y.hi m n v w a.0 b.1 p.ll q.lh)
+    (corner_gap x.lo y.lo x.hi y.lo m n v w a.0 b.0 p.lh q.ll)
+    (corner_gap x.lo y.lo x.hi y.hi m n v w a.0 b.1 p.lh q.lh) in
     let from_lh : (lh -ℤ g) ≤ℤ least_of_four ll lh hl hh = least_above ll lh hl hh (lh -ℤ g)
-    (corner_gap x.lo y.hi x.lo y.lo m n v w a.0 b.0 p.ll q.hl) (corner_gap x.lo y.hi x.lo y.hi m n v w a.0 b.1 p.ll q.hh) (corner_gap x.lo y.hi x.hi y.lo m n v w a.0 b.0 p.lh q.hl) (corner_gap x.lo y.hi x.hi y.hi m n v w a.0 b.1 p.lh q.hh) in
+    (corner_gap x.lo y.hi x.lo y.lo m n v w a.0 b.0 p.ll q.hl)
+    (corner_gap x.lo y.hi x.lo y.hi m n v w a.0 b.1 p.ll q.hh)
+    (corner_gap x.lo y.hi x.hi y.lo m n v w a.0 b.0 p.lh q.hl)
+    (corner_gap x.lo y.hi x.hi y.hi m n v w a.0 b.1 p.lh q.hh) in
     let from_hl : (hl -ℤ g) ≤ℤ least_of_four ll lh hl hh = least_above ll lh hl hh (hl -ℤ g)
-    (corner_gap x.hi y.lo x.lo y.lo m n v w a.1 b.0 p.hl q.ll) (corner_gap x.hi y.lo x.lo y.hi m n v w a.1 b.1 p.hl q.lh) (corner_gap x.hi y.lo x.hi y.lo m n v w a.1 b.0 p.hh q.ll) (corner_gap x.hi y.lo x.hi y.hi m n v w a.1 b.1 p.hh q.lh) in
+    (corner_gap x.hi y.lo x.lo y.lo m n v w a.1 b.0 p.hl q.ll)
+    (corner_gap x.hi y.lo x.lo y.hi m n v w a.1 b.1 p.hl q.lh)
+    (corner_gap x.hi y.lo x.hi y.lo m n v w a.1 b.0 p.hh q.ll)
+    (corner_gap x.hi y.lo x.hi y.hi m n v w a.1 b.1 p.hh q.lh) in
     let from_hh : (hh -ℤ g) ≤ℤ least_of_four ll lh hl hh = least_above ll lh hl hh (hh -ℤ g)
-    (corner_gap x.hi y.hi x.lo y.lo m n v w a.1 b.0 p.hl q.hl) (corner_gap x.hi y.hi x.lo y.hi m n v w a.1 b.1 p.hl q.hh) (corner_gap x.hi y.hi x.hi y.lo m n v w a.1 b.0 p.hh q.hl) (corner_gap x.hi y.hi x.hi y.hi m n v w a.1 b.1 p.hh q.hh) in
+    (corner_gap x.hi y.hi x.lo y.lo m n v w a.1 b.0 p.hl q.hl)
+    (corner_gap x.hi y.hi x.lo y.hi m n v w a.1 b.1 p.hl q.hh)
+    (corner_gap x.hi y.hi x.hi y.lo m n v w a.1 b.0 p.hh q.hl)
+    (corner_gap x.hi y.hi x.hi y.hi m n v w a.1 b.1 p.hh q.hh) in
     let top = greatest_below ll lh hl hh (least_of_four ll lh hl hh +ℤ g) (omega (arith, ints)) (omega (arith, ints)) (omega (arith, ints)) (omega (arith, ints)) in
     omega (arith, ints)
 

@@ -47,7 +47,9 @@ state_more draws n first now new so_far one =
     one ∙ ap (state_after draws) so_far ∙ sym (state_after-add draws (draws * n) first) ∙ ap (λ k. state_after k first) (sym sum)
 
 -- the same of a part that is drawn from the state before it
-pub text_more_from : (old now new : List ℕ) (at : ℕ → ℕ → List Event) (draws n first state : ℕ) → now ≡ old ++ text_of_events (for_each n (λ i. at i (state_after (draws * i) first))) → state ≡ state_after (draws * n) first → new ≡ now ++ text_of_events (at n state)
+pub text_more_from : (old now new : List ℕ) (at : ℕ → ℕ → List Event) (draws n first state : ℕ)
+    → now ≡ old ++ text_of_events (for_each n (λ i. at i (state_after (draws * i) first))) → state ≡ state_after (draws * n) first
+    → new ≡ now ++ text_of_events (at n state)
     → new ≡ old ++ text_of_events (for_each (n + 1) (λ i. at i (state_after (draws * i) first)))
 text_more_from old now new at draws n first state so_far steps one =
     text_one_part_more old now new (λ i. at i (state_after (draws * i) first)) n so_far (one ∙ ap (λ s. now ++ text_of_events (at n s)) steps)
@@ -85,7 +87,8 @@ text_one e = sym (append-nil (event_text e))
 -- ---- the whole feed
 
 -- five parts after one another are one text
-pub text_five : (a b c d e : List ℕ) (first : Event) (vs ws xs ys : List Event) (last : Event) → a ≡ text_of_events (first ∷ vs) → b ≡ a ++ text_of_events ws → c ≡ b ++ text_of_events xs → d ≡ c ++ text_of_events ys → e ≡ d ++ event_text last
+pub text_five : (a b c d e : List ℕ) (first : Event) (vs ws xs ys : List Event) (last : Event) → a ≡ text_of_events (first ∷ vs)
+    → b ≡ a ++ text_of_events ws → c ≡ b ++ text_of_events xs → d ≡ c ++ text_of_events ys → e ≡ d ++ event_text last
     → e ≡ text_of_events (first ∷ (vs ++ ws ++ xs ++ ys ++ last ∷ []))
 text_five a b c d e first vs ws xs ys last ha hb hc hd he =
     he ∙ ap (λ t. t ++ event_text last) (hd ∙ ap (λ t. t ++ text_of_events ys) (hc ∙ ap (λ t. t ++ text_of_events xs) (hb ∙ ap (λ t. t ++ text_of_events ws) ha)))
@@ -151,10 +154,15 @@ tick_text old a b c time state first centre second standard weekly hf hc hs hw h
     (ha ∙ ap (λ es. old ++ text_of_events es) quotes) (hb ∙ ap (λ es. a ++ text_of_events es) others) (he ∙ ap (λ t. b ++ t) (text_one (event.Tick time)))
 
 -- the parts of the feed after one another
-pub feed_text : (start a b c d e : List ℕ) (number ticks count : ℕ) (standard weekly : Expiry) → start ≡ [] → a ≡ start ++ text_of_events (header ∷ declared_terms) → standard ≡ standard_term → b ≡ a ++ text_of_events (listed_series standard)
-    → weekly ≡ weekly_term → c ≡ b ++ text_of_events (listed_series weekly) → d ≡ c ++ text_of_events (ticks_events number ticks) → count ≡ 804 + 801 * ticks → e ≡ d ++ event_text (event.End count) → e ≡ make_text number ticks
+pub feed_text : (start a b c d e : List ℕ) (number ticks count : ℕ) (standard weekly : Expiry) → start ≡ []
+    → a ≡ start ++ text_of_events (header ∷ declared_terms) → standard ≡ standard_term → b ≡ a ++ text_of_events (listed_series standard)
+    → weekly ≡ weekly_term → c ≡ b ++ text_of_events (listed_series weekly) → d ≡ c ++ text_of_events (ticks_events number ticks)
+    → count ≡ 804 + 801 * ticks → e ≡ d ++ event_text (event.End count) → e ≡ make_text number ticks
 feed_text start a b c d e number ticks count standard weekly hs ha ht hb hw hc hd hn he =
     let body = body_events number ticks in
     let lines : count ≡ length body = hn ∙ sym (length-body number ticks) in
     text_five a b c d e header declared_terms (listed_series standard_term) (listed_series weekly_term) (ticks_events number ticks) (event.End (length body))
-    (ha ∙ ap (λ t. t ++ text_of_events (header ∷ declared_terms)) hs) (hb ∙ ap (λ x. a ++ text_of_events (listed_series x)) ht) (hc ∙ ap (λ x. b ++ text_of_events (listed_series x)) hw) hd (he ∙ ap (λ n. d ++ event_text (event.End n)) lines)
+    (ha ∙ ap (λ t. t ++ text_of_events (header ∷ declared_terms)) hs)
+    (hb ∙ ap (λ x. a ++ text_of_events (listed_series x)) ht)
+    (hc ∙ ap (λ x. b ++ text_of_events (listed_series x)) hw) hd
+    (he ∙ ap (λ n. d ++ event_text (event.End n)) lines)

@@ -40,6 +40,10 @@ pub amount_is_one : (figure : ℕ) (p : Position) (a b : ℤ) → IsAmount figur
 amount_is_one figure p a b e f =
     hundredth_is_one a b ((pos (100 * figure) -ℤ pos p.last) *ℤ pos (multiplier_of p.contract) *ℤ p.quantity) e f
 
+-- a number as the code holds it, in 128 bits
+abbrev cast : ℤ → ℤ
+cast z = to_z w128 (of_z w128 z)
+
 -- the products that the code makes: a gain below 2 ^ 32, at most ten cents and at most a million contracts have room in 128 bits
 gain_fits : (gain : ℤ) → nat_abs gain ≤ 2 ^ 32 → FitsSigned w128 gain
 gain_fits gain h = fits_signed_from_abs w128 gain (omega arith)
@@ -63,28 +67,33 @@ amount_within gain cents quantity h k q =
     let first : nat_abs (gain *ℤ pos cents) ≤ 2 ^ 32 * 10 = omega (arith, unsigned_abs-mul gain (pos cents), mul-le-mul h k) in
     omega (arith, unsigned_abs-mul (gain *ℤ pos cents) quantity, mul-le-mul first q)
 
-first_is : (gain : ℤ) (cents : ℕ) → nat_abs gain ≤ 2 ^ 32 → cents ≤ 10 → to_z w128 (of_z w128 gain) *ℤ to_z w128 (of_z w128 (pos cents)) ≡ gain *ℤ pos cents
+first_is : (gain : ℤ) (cents : ℕ) → nat_abs gain ≤ 2 ^ 32 → cents ≤ 10 → cast gain *ℤ cast (pos cents) ≡ gain *ℤ pos cents
 first_is gain cents h k = λ i. to_z-of_z w128 gain (gain_fits gain h) i *ℤ to_z-of_z w128 (pos cents) (cents_fit cents k) i
 
-both_are : (gain : ℤ) (cents : ℕ) (quantity : ℤ) → nat_abs gain ≤ 2 ^ 32 → cents ≤ 10 → nat_abs quantity ≤ 1000000 → to_z w128 (of_z w128 (to_z w128 (of_z w128 gain) *ℤ to_z w128 (of_z w128 (pos cents)))) *ℤ to_z w128 (of_z w128 quantity) ≡ gain *ℤ pos cents *ℤ quantity
+both_are : (gain : ℤ) (cents : ℕ) (quantity : ℤ) → nat_abs gain ≤ 2 ^ 32 → cents ≤ 10 → nat_abs quantity ≤ 1000000
+    → cast (cast gain *ℤ cast (pos cents)) *ℤ cast quantity ≡ gain *ℤ pos cents *ℤ quantity
 both_are gain cents quantity h k q =
-    (λ i. to_z w128 (of_z w128 (first_is gain cents h k i)) *ℤ to_z-of_z w128 quantity (quantity_fits quantity q) i)
+    (λ i. cast (first_is gain cents h k i) *ℤ to_z-of_z w128 quantity (quantity_fits quantity q) i)
     ∙ ap (λ z. z *ℤ quantity) (to_z-of_z w128 (gain *ℤ pos cents) (first_fits gain cents h k))
 
 -- the amount has room in 128 bits
-pub amount_fits : (gain wide_cents wide_quantity : ℤ) (cents : ℕ) (quantity : ℤ) → wide_cents ≡ pos cents → wide_quantity ≡ quantity → nat_abs gain ≤ 2 ^ 32 → cents ≤ 10 → nat_abs quantity ≤ 1000000 → FitsSigned w128 (to_z w128 (of_z w128 (to_z w128 (of_z w128 gain) *ℤ to_z w128 (of_z w128 wide_cents))) *ℤ to_z w128 (of_z w128 wide_quantity))
+pub amount_fits : (gain wide_cents wide_quantity : ℤ) (cents : ℕ) (quantity : ℤ) → wide_cents ≡ pos cents → wide_quantity ≡ quantity
+    → nat_abs gain ≤ 2 ^ 32 → cents ≤ 10 → nat_abs quantity ≤ 1000000
+    → FitsSigned w128 (cast (cast gain *ℤ cast wide_cents) *ℤ cast wide_quantity)
 amount_fits gain wide_cents wide_quantity cents quantity e f h k q =
-    subst (FitsSigned w128) (sym ((λ i. to_z w128 (of_z w128 (to_z w128 (of_z w128 gain) *ℤ to_z w128 (of_z w128 (e i)))) *ℤ to_z w128 (of_z w128 (f i))) ∙ both_are gain cents quantity h k q)) (both_fit gain cents quantity h k q)
+    subst (FitsSigned w128) (sym ((λ i. cast (cast gain *ℤ cast (e i)) *ℤ cast (f i)) ∙ both_are gain cents quantity h k q)) (both_fit gain cents quantity h k q)
 
 -- so the computed product is the amount
-pub amount_is : (gain wide_cents wide_quantity : ℤ) (cents : ℕ) (quantity : ℤ) → wide_cents ≡ pos cents → wide_quantity ≡ quantity → nat_abs gain ≤ 2 ^ 32 → cents ≤ 10 → nat_abs quantity ≤ 1000000 → to_z w128 (of_z w128 (to_z w128 (of_z w128 (to_z w128 (of_z w128 gain) *ℤ to_z w128 (of_z w128 wide_cents))) *ℤ to_z w128 (of_z w128 wide_quantity))) ≡ gain *ℤ pos cents *ℤ quantity
+pub amount_is : (gain wide_cents wide_quantity : ℤ) (cents : ℕ) (quantity : ℤ) → wide_cents ≡ pos cents → wide_quantity ≡ quantity
+    → nat_abs gain ≤ 2 ^ 32 → cents ≤ 10 → nat_abs quantity ≤ 1000000
+    → cast (cast (cast gain *ℤ cast wide_cents) *ℤ cast wide_quantity) ≡ gain *ℤ pos cents *ℤ quantity
 amount_is gain wide_cents wide_quantity cents quantity e f h k q =
-    (λ i. to_z w128 (of_z w128 (to_z w128 (of_z w128 (to_z w128 (of_z w128 gain) *ℤ to_z w128 (of_z w128 (e i)))) *ℤ to_z w128 (of_z w128 (f i)))))
-    ∙ (ap (λ z. to_z w128 (of_z w128 z)) (both_are gain cents quantity h k q) ∙ to_z-of_z w128 (gain *ℤ pos cents *ℤ quantity) (both_fit gain cents quantity h k q))
+    (λ i. cast (cast (cast gain *ℤ cast (e i)) *ℤ cast (f i)))
+    ∙ (ap (λ z. cast z) (both_are gain cents quantity h k q) ∙ to_z-of_z w128 (gain *ℤ pos cents *ℤ quantity) (both_fit gain cents quantity h k q))
 
 -- and what they make is below 2 ^ 56
 pub amount_bound : (gain wide_cents wide_quantity : ℤ) (cents : ℕ) (quantity : ℤ) → wide_cents ≡ pos cents → wide_quantity ≡ quantity → nat_abs gain ≤ 2 ^ 32 → cents ≤ 10 → nat_abs quantity ≤ 1000000
-    → nat_abs (to_z w128 (of_z w128 (to_z w128 (of_z w128 (to_z w128 (of_z w128 gain) *ℤ to_z w128 (of_z w128 wide_cents))) *ℤ to_z w128 (of_z w128 wide_quantity)))) ≤ 2 ^ 56
+    → nat_abs (cast (cast (cast gain *ℤ cast wide_cents) *ℤ cast wide_quantity)) ≤ 2 ^ 56
 amount_bound gain wide_cents wide_quantity cents quantity e f h k q =
     subst (λ (z : ℤ). nat_abs z ≤ 2 ^ 56) (sym (amount_is gain wide_cents wide_quantity cents quantity e f h k q)) (amount_within gain cents quantity h k q)
 

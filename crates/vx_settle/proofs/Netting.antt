@@ -76,7 +76,9 @@ worth_at : (figure : ℕ) (contract : Contract) (last : ℕ) (p : Position) → 
 worth_at figure contract last p e =
     ap (λ (c : Contract). gain_of figure c p.last *ℤ p.quantity) (sym (contract_at contract last p e)) ∙ ap (λ (l : ℕ). gain_of figure contract l *ℤ p.quantity) (sym (position_last_is contract last p e))
 
-worth_step : (figure : ℕ) (p : Position) (ps os : List Position) (b : Bool) (gain net : ℤ) → (b ≡ true → worth_of figure p ≡ gain *ℤ p.quantity) → worth_of_all figure ps ≡ gain *ℤ net +ℤ worth_of_all figure os → worth_of figure p +ℤ worth_of_all figure ps ≡ gain *ℤ (if b then p.quantity +ℤ net else net) +ℤ worth_of_all figure (if b then os else p ∷ os)
+worth_step : (figure : ℕ) (p : Position) (ps os : List Position) (b : Bool) (gain net : ℤ) → (b ≡ true → worth_of figure p ≡ gain *ℤ p.quantity)
+    → worth_of_all figure ps ≡ gain *ℤ net +ℤ worth_of_all figure os
+    → worth_of figure p +ℤ worth_of_all figure ps ≡ gain *ℤ (if b then p.quantity +ℤ net else net) +ℤ worth_of_all figure (if b then os else p ∷ os)
 worth_step figure p ps os true gain net here rest = taken (worth_of figure p) (worth_of_all figure ps) (worth_of_all figure os) gain p.quantity net (here refl) rest
   where
     taken : (worth more others gain quantity net : ℤ) → worth ≡ gain *ℤ quantity → more ≡ gain *ℤ net +ℤ others → worth +ℤ more ≡ gain *ℤ (quantity +ℤ net) +ℤ others
@@ -105,14 +107,17 @@ others_net_nothing : (contract : Contract) (last : ℕ) (ps : List Position) →
 others_net_nothing contract last [] = refl
 others_net_nothing contract last (p ∷ ps) = net_taken (is_position_at contract last p) contract last p (others contract last ps) refl (others_net_nothing contract last ps)
 
-net_kept : (b a : Bool) (contract : Contract) (last : ℕ) (p : Position) (ps os : List Position) → is_position_at contract last p ≡ a → (b ≡ true → a ≡ true → ⊥) → net_quantity contract last os ≡ net_quantity contract last ps → net_quantity contract last (if b then os else p ∷ os) ≡ (if a then p.quantity +ℤ net_quantity contract last ps else net_quantity contract last ps)
+net_kept : (b a : Bool) (contract : Contract) (last : ℕ) (p : Position) (ps os : List Position) → is_position_at contract last p ≡ a
+    → (b ≡ true → a ≡ true → ⊥) → net_quantity contract last os ≡ net_quantity contract last ps
+    → net_quantity contract last (if b then os else p ∷ os) ≡ (if a then p.quantity +ℤ net_quantity contract last ps else net_quantity contract last ps)
 net_kept true true contract last p ps os e apart h = absurd (apart refl refl)
 net_kept true false contract last p ps os e apart h = h
 net_kept false a contract last p ps os e apart h =
     ap (λ (b : Bool). if b then p.quantity +ℤ net_quantity contract last os else net_quantity contract last os) e ∙ ap (λ (z : ℤ). if a then p.quantity +ℤ z else z) h
 
 -- what another contract or last price nets to is as it was
-others_net_as_before : (contract : Contract) (last : ℕ) (contract' : Contract) (last' : ℕ) (ps : List Position) → (contract' ≡ contract → last' ≡ last → ⊥) → net_quantity contract' last' (others contract last ps) ≡ net_quantity contract' last' ps
+others_net_as_before : (contract : Contract) (last : ℕ) (contract' : Contract) (last' : ℕ) (ps : List Position)
+    → (contract' ≡ contract → last' ≡ last → ⊥) → net_quantity contract' last' (others contract last ps) ≡ net_quantity contract' last' ps
 others_net_as_before contract last contract' last' [] apart = refl
 others_net_as_before contract last contract' last' (p ∷ ps) apart =
     net_kept (is_position_at contract last p) (is_position_at contract' last' p) contract' last' p ps (others contract last ps) refl
@@ -133,7 +138,9 @@ nothing_left worth more gain quantity net left e f g h =
 others_behind : (p : Position) (ps : List Position) → others p.contract p.last (p ∷ ps) ≡ others p.contract p.last ps
 others_behind p ps = ap (λ (b : Bool). if b then others p.contract p.last ps else p ∷ others p.contract p.last ps) (at_own p)
 
-others_net : (contract : Contract) (last : ℕ) (ps : List Position) (same : Bool) (contract' : Contract) (last' : ℕ) → (is_same_contract contract contract' && (last == last')) ≡ same → net_quantity contract last ps ≡ pos 0 → net_quantity contract last (others contract' last' ps) ≡ pos 0
+others_net : (contract : Contract) (last : ℕ) (ps : List Position) (same : Bool) (contract' : Contract) (last' : ℕ)
+    → (is_same_contract contract contract' && (last == last')) ≡ same → net_quantity contract last ps ≡ pos 0
+    → net_quantity contract last (others contract' last' ps) ≡ pos 0
 others_net contract last ps true contract' last' is h =
     let c : contract ≡ contract' = same_contract contract contract' (left_true (is_same_contract contract contract') (last == last') is) in
     let l : last ≡ last' = eqb-true last last' (right_true (is_same_contract contract contract') (last == last') is) in

@@ -88,7 +88,9 @@ price_in_range level row lawful =
       ]
     ]
 
-entry_in_range : (level : ℕ) (below : Option ℕ) (row : StrikeRow) (rest : List StrikeRow) → IsLawfulRow row → 1 ≤ doubled_width below row.strike (first_strike rest) → doubled_width below row.strike (first_strike rest) ≤ WIDTH_MAX → IsEntryInRange (entry_after level below row rest)
+entry_in_range : (level : ℕ) (below : Option ℕ) (row : StrikeRow) (rest : List StrikeRow) → IsLawfulRow row
+    → 1 ≤ doubled_width below row.strike (first_strike rest) → doubled_width below row.strike (first_strike rest) ≤ WIDTH_MAX
+    → IsEntryInRange (entry_after level below row rest)
 entry_in_range level below row rest lawful least greatest = record {
   strike_min = lawful.strike_min;
   strike_max = lawful.strike_max;

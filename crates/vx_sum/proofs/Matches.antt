@@ -37,7 +37,8 @@ found_row None row h = absurd (false≢true h)
 found_row (Some kept) row h = (kept, refl, h)
 
 -- its kept ends are its own
-pub kept_row_ends : (P : ℕ) (kept : List StripRow) (ends : List SumRow) (place : ℕ) (d : SumRow) (row : StripRow) → ends ≡ map (row_ends P) (map entry_of kept) → is_kept_at kept place row ≡ true → get_or ends place d ≡ row_ends P (entry_of row)
+pub kept_row_ends : (P : ℕ) (kept : List StripRow) (ends : List SumRow) (place : ℕ) (d : SumRow) (row : StripRow)
+    → ends ≡ map (row_ends P) (map entry_of kept) → is_kept_at kept place row ≡ true → get_or ends place d ≡ row_ends P (entry_of row)
 kept_row_ends P kept ends place d row belong h =
     let found = found_row (slice_get kept place) row h in
     let low : place < length kept = slice_get_within kept place found.0 found.1 in
@@ -57,7 +58,15 @@ rises rows i j a b rise p q below =
     let first : P a (get_or rows j a) = subst (λ x. P x (get_or rows j a)) (get_or_from_slice_get rows i a a p) (rise i j a below (slice_get_within rows j b q)) in
     subst (λ y. P a y) (get_or_from_slice_get rows j b a q) first
 
-module _ (kept : List StripRow) (place : ℕ) (row : StripRow) (rise : Rises kept) (before : (k : ℕ) (other : StripRow) → k < place → slice_get kept k ≡ Some other → other.strike < row.strike) (stops : (other : StripRow) → slice_get kept place ≡ Some other → row.strike ≤ other.strike) where
+-- the kept rows before a place lie below a row
+abbrev AreBelow : List StripRow → ℕ → StripRow → Type 0
+AreBelow kept place row = (k : ℕ) (other : StripRow) → k < place → slice_get kept k ≡ Some other → other.strike < row.strike
+
+-- and the one at the place is not below it
+abbrev IsNotBelow : List StripRow → ℕ → StripRow → Type 0
+IsNotBelow kept place row = (other : StripRow) → slice_get kept place ≡ Some other → row.strike ≤ other.strike
+
+module _ (kept : List StripRow) (place : ℕ) (row : StripRow) (rise : Rises kept) (before : AreBelow kept place row) (stops : IsNotBelow kept place row) where
   -- a kept row of the same strike stands at the place
   only_here : (k : ℕ) (other : StripRow) → k < length kept → slice_get kept k ≡ Some other → other.strike ≡ row.strike → k ≡ place
   only_here k other low is same = elim (cases_order k place) [

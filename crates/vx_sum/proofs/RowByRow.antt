@@ -49,7 +49,8 @@ row_small P row scale h =
 
 -- ---- one row on
 
-pub sum_by_more : (f : StripEntry → ℕ) (rows : List StripRow) (i old new x : ℕ) → i < length rows → old ≡ sum_by f (map entry_of (take i rows)) → new ≡ old + x → x ≡ f (entry_of (get_or rows i no_row)) → new ≡ sum_by f (map entry_of (take (i + 1) rows))
+pub sum_by_more : (f : StripEntry → ℕ) (rows : List StripRow) (i old new x : ℕ) → i < length rows → old ≡ sum_by f (map entry_of (take i rows))
+    → new ≡ old + x → x ≡ f (entry_of (get_or rows i no_row)) → new ≡ sum_by f (map entry_of (take (i + 1) rows))
 sum_by_more f rows i old new x low so_far sum is =
     let more : sum_by f (map entry_of (take (i + 1) rows)) ≡ sum_by f (map entry_of (take i rows)) + f (entry_of (get_or rows i no_row)) =
     ap (sum_by f) (map_more entry_of rows i no_row low) ∙ sum_by_push f (map entry_of (take i rows)) (entry_of (get_or rows i no_row)) in
@@ -101,7 +102,9 @@ passed_more kept rows place place' i low rise passed first = λ k j other row un
       | inr from_on ↦ let less = first.below k other from_on under other_is in omega arith
     ]
 
-touched_at : (kept rows : List StripRow) (place place' i : ℕ) → i < length rows → Rises kept → IsPassed kept place rows i → IsFirstFrom kept place (get_or rows i no_row).strike place' → is_touched (map entry_of kept) (entry_of (get_or rows i no_row)) ≡ not (is_kept_at kept place' (get_or rows i no_row))
+touched_at : (kept rows : List StripRow) (place place' i : ℕ) → i < length rows → Rises kept → IsPassed kept place rows i
+    → IsFirstFrom kept place (get_or rows i no_row).strike place'
+    → is_touched (map entry_of kept) (entry_of (get_or rows i no_row)) ≡ not (is_kept_at kept place' (get_or rows i no_row))
 touched_at kept rows place place' i low rise passed first =
     let here : slice_get rows i ≡ Some (get_or rows i no_row) = slice_get-get_or rows i no_row low in
     touched_here kept place' (get_or rows i no_row) rise

@@ -63,7 +63,8 @@ pub record IsLevelOfForward (P k : ℕ) (f : Ends) : Type 0 where
   pub at_least : (pos k *ℤ unit P) ≤ℤ f.lo
   pub at_most_twice : f.hi ≤ℤ (pos (2 * k) *ℤ unit P)
 
-row_is_level : (P : ℕ) (rows : List StrikeRow) (f : Ends) (place : ℕ) → AreLawfulRows rows → (row : StrikeRow) → IsLevelRow rows (printed_forward P f).0 (printed_forward P f).1 place row → ¬ HasNoneAbove rows row.strike → IsLevelOfForward P row.strike f
+row_is_level : (P : ℕ) (rows : List StrikeRow) (f : Ends) (place : ℕ) → AreLawfulRows rows → (row : StrikeRow)
+    → IsLevelRow rows (printed_forward P f).0 (printed_forward P f).1 place row → ¬ HasNoneAbove rows row.strike → IsLevelOfForward P row.strike f
 row_is_level P rows f place lawful row h some =
     let below = level_lies_below P rows f place row h in
     let g = h.greatest in
@@ -156,7 +157,8 @@ module _ (P : ℕ) (x : Expiry) (facts : TermFacts) (rate : ℤ) (exp : ExpRun P
 
 -- ---- the exponential's run, at an exponent that the code has under casts
 
-pub exp_run_given : (P : ℕ) (p p' : ℤ) (q q' : ℕ) (run : ExpRun P) → p ≡ p' → q ≡ q' → IsTerms (low_term (2 ^ P) (nat_abs p) q) run.t_lo → IsTerms (high_term (2 ^ P) (nat_abs p) q) run.t_hi → run.value ≡ signed_ends P p q → IsExpRun P (record { top = p'; bottom = q' }) run
+pub exp_run_given : (P : ℕ) (p p' : ℤ) (q q' : ℕ) (run : ExpRun P) → p ≡ p' → q ≡ q' → IsTerms (low_term (2 ^ P) (nat_abs p) q) run.t_lo
+    → IsTerms (high_term (2 ^ P) (nat_abs p) q) run.t_hi → run.value ≡ signed_ends P p q → IsExpRun P (record { top = p'; bottom = q' }) run
 exp_run_given P p p' q q' run top bottom low high value =
     let fraction : ℤ → ℕ → Fraction = λ t b. record { top = t; bottom = b } in
     let at : IsExpRun P (fraction p q) run = record { low_terms = low; high_terms = high; value = value } in
