@@ -79,7 +79,8 @@ impl Day {
         if is_time_back(&self.ticks, tick) {
             return Err(Fault::TimeBack);
         }
-        self.ticks.push(tick).map_err(|_| Fault::NoMemory)
+        self.ticks.push(tick)?;
+        Ok(())
     }
 
     fn end(&mut self, counts: Counts) -> Result<(), Fault>

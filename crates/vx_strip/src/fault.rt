@@ -1,6 +1,7 @@
 //! Why a term has no strip at its level.
 
 use thiserror::Error;
+use vx_num::NoMemory;
 
 /// Why a term has no strip at its level. Of several causes the first that holds, in this order, is
 /// answered.
@@ -18,4 +19,15 @@ pub enum StripRefusal {
     /// No strike above the level is selected.
     #[error("no call above the level")]
     NoCall,
+}
+
+impl From<NoMemory> for StripRefusal {
+    ghost use Rattle.std.specs.Prelude.{◌≡◌};
+    ghost use Rattle.vx_strip.specs.declared.fault.StripRefusal.TheVariants.{NoMemory as no_memory};
+
+    ghost from_gives = { λ _ refusal. refusal ≡ no_memory };
+
+    fn from(_refused: NoMemory) -> StripRefusal {
+        StripRefusal::NoMemory
+    }
 }

@@ -41,14 +41,14 @@ pub fn select(alloc: Global, term: &TermView, k0: usize) -> Result<Strip, StripR
     if !has_money(&level) {
         return Err(StripRefusal::NoMoney);
     }
-    let selected = selected(alloc, term.rows, k0).map_err(|_| StripRefusal::NoMemory)?;
+    let selected = selected(alloc, term.rows, k0)?;
     if !has_put(&selected, level.strike) {
         return Err(StripRefusal::NoPut);
     }
     if !has_call(&selected, level.strike) {
         return Err(StripRefusal::NoCall);
     }
-    let rows = with_widths(alloc, level.strike, &selected).map_err(|_| StripRefusal::NoMemory)?;
+    let rows = with_widths(alloc, level.strike, &selected)?;
     Ok(Strip { rows })
 }
 

@@ -46,7 +46,7 @@ impl StripRows {
     pub(crate) fn with_room(alloc: Global, count: usize) -> Result<StripRows, NoMemory>
         ensures { IfOk result (λ rows. rows ≡ []) }
     {
-        let list = Vec::with_capacity(alloc, count).map_err(|_| NoMemory)?;
+        let list = Vec::with_capacity(alloc, count)?;
         Ok(StripRows { list })
     }
 
@@ -55,14 +55,15 @@ impl StripRows {
         ensures ok { OnOk result (self.new ≡ self.old ++ item ∷ []) }
         ensures err { OnErr result (self.new ≡ self.old) }
     {
-        self.list.push(item).map_err(|_| NoMemory)
+        self.list.push(item)?;
+        Ok(())
     }
 
     /// A copy of the list.
     fn copied(&self, alloc: Global) -> Result<StripRows, NoMemory>
         ensures { IfOk result (λ rows. rows ≡ self.now) }
     {
-        let list = Vec::from_slice(alloc, self.list.as_slice()).map_err(|_| NoMemory)?;
+        let list = Vec::from_slice(alloc, self.list.as_slice())?;
         Ok(StripRows { list })
     }
 

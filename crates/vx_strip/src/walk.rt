@@ -91,10 +91,10 @@ pub(crate) fn selected(
         low: lowest_reached(rows, k0),
         high: highest_reached(rows, k0),
     };
-    let mut selected = Vec::with_capacity(alloc, rows.len()).map_err(|_| NoMemory)?;
+    let mut selected = Vec::with_capacity(alloc, rows.len())?;
     for (place, row) in rows.iter().enumerate() {
         if is_taken(rows, k0, reach, place) {
-            selected.push(*row).map_err(|_| NoMemory)?;
+            selected.push(*row)?;
         }
     }
     Ok(selected)

@@ -78,7 +78,7 @@ impl<const P: u32> KeptStrip<P> {
             ≤ steps.old + touched_count (kept_entries self.old) (entries_of strip.now) }
     {
         let totals = self.totals(strip, steps)?;
-        let strip = strip.copied(self.alloc).map_err(|_| SumRefusal::NoMemory)?;
+        let strip = strip.copied(self.alloc)?;
         self.held = Some(Kept {
             strip,
             sum: totals.into_sum(),

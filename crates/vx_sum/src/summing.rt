@@ -85,12 +85,12 @@ pub(crate) fn summed<L: Ledger>(
         → steps.new ≡ steps.old + touched_count (map entry_of kept.now) (map entry_of rows.now)) }
 {
     let limit = u128::from(STRIP_TOTAL_MAX) * units(scale);
-    let mut totals = Totals::new(alloc, rows.len()).map_err(|_| SumRefusal::NoMemory)?;
+    let mut totals = Totals::new(alloc, rows.len())?;
     let mut place = 0;
     for row in rows {
         place = first_from(kept, place, row.strike);
         let ends = ends_of(scale, kept, kept_ends, place, row, steps);
-        totals.add(ends, limit).map_err(|_| SumRefusal::NoMemory)?;
+        totals.add(ends, limit)?;
     }
     if totals.upper > limit {
         return Err(SumRefusal::StripTooLarge {

@@ -41,7 +41,7 @@ fn sum_of(alloc: Global, rows: &[StripRow]) -> Result<StripSum<60>, SumRefusal>
     requires few { length rows.now ≤ STRIP_ROWS_MAX }
     requires in_range { All IsRowInRange rows.now }
 {
-    let strip = strip_of(alloc, rows).map_err(|_| SumRefusal::NoMemory)?;
+    let strip = strip_of(alloc, rows)?;
     sum_strip(alloc, &strip)
 }
 
@@ -123,7 +123,7 @@ fn refreshed<L: Ledger>(
     requires count { steps.old ≤ 2 ^ 63 }
     ensures { steps.new ≤ steps.old + length rows.now }
 {
-    let strip = strip_of(alloc, rows).map_err(|_| SumRefusal::NoMemory)?;
+    let strip = strip_of(alloc, rows)?;
     kept.refresh(&strip, steps)?;
     let total = &kept.sum().total;
     Ok((total.lo(), total.hi()))
@@ -135,7 +135,7 @@ fn three_refreshes<L: Ledger>(alloc: Global, blank: Blank) -> Result<[(i128, i12
     requires shares { 0 < L.parts }
 {
     let mut steps = Steps::<L>::open(blank);
-    let mut kept = KeptStrip::<60>::new(alloc).map_err(|_| SumRefusal::NoMemory)?;
+    let mut kept = KeptStrip::<60>::new(alloc)?;
     Ok([
         refreshed(alloc, &mut kept, &FIRST, &mut steps)?,
         refreshed(alloc, &mut kept, &FIRST, &mut steps)?,

@@ -33,8 +33,8 @@ add-requires-clause-limit g c =
     let limit : c.from.result * c.units.result ≡ 2 * c.units.result = ap (λ n. n * c.units.result) two in
     omega (arith, small, limit)
 
-pub returns-in_err-map_err-clause-most : goal.returns-in_err-map_err-clause-most
-returns-in_err-map_err-clause-most g c = λ kept_rises rows_rise.
+pub returns-in_err-add-clause-most : goal.returns-in_err-add-clause-most
+returns-in_err-add-clause-most g c = λ kept_rises rows_rise.
     let passed = c.loop-row.invariant.passed rows_rise in
     let so_far = touched_more c.args.kept.now c.args.rows.now c.loop-row.place c.first_from-place.result c.loop-row.row-index c.args.steps.now c.loop-row.steps c.ends_of-ends.new.steps (omega arith) kept_rises passed c.first_from-place.ensures.first (c.loop-row.invariant.counted kept_rises rows_rise) c.ends_of-ends.ensures.step in
     let part = count_of_part c.args.kept.now c.args.rows.now (c.loop-row.row-index + 1) in
