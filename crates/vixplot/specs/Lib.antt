@@ -6,5 +6,5 @@ pub mod Lines
 pub mod Days
 -- scales with round numbers, and where a value stands in them
 pub mod Scales
--- what lies in the picture
+-- what lies in the picture, and why there is none
 pub mod Pictures

@@ -1,13 +1,14 @@
 //! Draws a day as SVG. Its lengths are tenths of a pixel.
 
-ghost use Rattle.std.specs.Prelude.{◌≡◌, ◌≤◌, All, IfNone, IfSome, []};
+ghost use Rattle.std.specs.Prelude.{◌≡◌, ◌≢◌, ◌≤◌, All, IfErr, IfNone, IfSome, []};
 ghost use Rattle.vixplot.specs.Answers.{IsTickInRange, mark_of};
 ghost use Rattle.vixplot.specs.Days.{AreMarks, figures_of};
-ghost use Rattle.vixplot.specs.Pictures.{IsInPicture, IsWithinScale, IsWithinTimes};
+ghost use Rattle.vixplot.specs.Pictures.{IsDrawingFault, IsInPicture, IsWithinScale, IsWithinTimes};
 
 use crate::answer::{Answer, Tick};
 use crate::axis::{Scale, Times};
 use crate::day::{Mark, Marks, counts_of, figures_of, marks_of};
+use crate::fault::Fault;
 use crate::limits::{HEIGHT, LEFT, TOP, WIDTH};
 use std::alloc::Global;
 use std::io;
@@ -16,6 +17,7 @@ use std::io;
 fn times_of(ticks: &[Tick]) -> Option<Times>
     requires range { All IsTickInRange ticks.now }
     ensures within { IfSome result (λ times. All (IsWithinTimes times) ticks.now) }
+    ensures some { IfSome result (λ _. ticks.now ≢ []) }
     ensures none { IfNone result (ticks.now ≡ []) }
 {
     let first = ticks.iter().min_by_key(|tick| tick.minute)?;
@@ -33,9 +35,18 @@ fn scale_of(ticks: &[Tick], marks: &Marks) -> Scale
     Scale::around(marks.low.cents, marks.high.cents)
 }
 
-/// Prints the picture of a day.
-pub fn draw(rt: &impl Print, alloc: Global, ticks: &[Tick]) -> io::Result<()>
-    requires { All IsTickInRange ticks.now }
+/// Prints the picture of a day: how its ticks are answered; where there is a tick, the scale of times
+/// around all of them and a bar for each that has no figure; and where there is a figure, the scale of
+/// figures around all of them, the line of the figures, and the first, the last, a lowest and a highest.
+///
+/// # Errors
+///
+/// The output's refusal, at any line of the picture, and want of memory where there is a tick: no other
+/// fault. No clause can say which bytes an output holds; what is drawn is stated where it is computed, at
+/// `times_of`, `figures_of`, `marks_of` and `scale_of`.
+pub fn draw(rt: &impl Print, alloc: Global, ticks: &[Tick]) -> Result<(), Fault>
+    requires range { All IsTickInRange ticks.now }
+    ensures causes { IfErr result (IsDrawingFault ticks.now) }
 {
     println!(rt;
         "<svg xmlns=\"http://www.w3.org/2000/svg\" viewBox=\"0 0 12000 5600\" width=\"1200\" height=\"560\" font-family=\"sans-serif\" font-size=\"150\">"
@@ -49,7 +60,8 @@ pub fn draw(rt: &impl Print, alloc: Global, ticks: &[Tick]) -> io::Result<()>
         Some(times) => draw_ticks(rt, alloc, &times, ticks)?,
         None => println!(rt; "<text x=\"900\" y=\"650\">no tick</text>")?,
     }
-    println!(rt; "</svg>")
+    println!(rt; "</svg>")?;
+    Ok(())
 }
 
 /// How many ticks there are, and how they are answered.
@@ -62,17 +74,20 @@ fn draw_counts(rt: &impl Print, ticks: &[Tick]) -> io::Result<()> {
 }
 
 /// The scale of times, the gaps, and the figures.
-fn draw_ticks(rt: &impl Print, alloc: Global, times: &Times, ticks: &[Tick]) -> io::Result<()>
+fn draw_ticks(rt: &impl Print, alloc: Global, times: &Times, ticks: &[Tick]) -> Result<(), Fault>
+    requires some { ticks.now ≢ [] }
     requires range { All IsTickInRange ticks.now }
     requires times { All (IsWithinTimes times.now) ticks.now }
+    ensures causes { IfErr result (IsDrawingFault ticks.now) }
 {
     draw_times(rt, times)?;
     draw_gaps(rt, times, ticks)?;
     let figures = figures_of(alloc, ticks)?;
     match marks_of(&figures) {
-        Some(marks) => draw_figures(rt, times, ticks, &marks),
-        None => println!(rt; "<text x=\"900\" y=\"650\">no figure</text>"),
+        Some(marks) => draw_figures(rt, times, ticks, &marks)?,
+        None => println!(rt; "<text x=\"900\" y=\"650\">no figure</text>")?,
     }
+    Ok(())
 }
 
 /// The lines of the scale of times, with their times.
