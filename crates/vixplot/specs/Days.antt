@@ -63,7 +63,7 @@ IsTickFault ticks tick NoMemory = Unit {0}
 IsTickFault ticks tick _ = ⊥
 
 -- a line is not taken for this reason, after these ticks and perhaps END
-abbrev pub IsLineFault : List Tick → Bool → Line → Fault → Type 0
-IsLineFault ticks true line fault = fault ≡ AfterEnd
-IsLineFault ticks false (End counts) fault = (fault ≡ EndCount) × (¬ (counts ≡ counts_of ticks))
-IsLineFault ticks false (TickLine tick) fault = IsTickFault ticks tick fault
+abbrev pub IsDayFault : List Tick → Bool → Line → Fault → Type 0
+IsDayFault ticks true line fault = fault ≡ AfterEnd
+IsDayFault ticks false (End counts) fault = (fault ≡ EndCount) × (¬ (counts ≡ counts_of ticks))
+IsDayFault ticks false (TickLine tick) fault = IsTickFault ticks tick fault

@@ -3,7 +3,7 @@
 ghost use Rattle.std.specs.Prelude.{◌≡◌, ◌≤◌, ◌++◌, [], ◌∷◌, false, IfErr, IfNone, IfOk, IfSome, OnErr, OnOk, All, Contains, IsTrue, MatchBool, count_by};
 ghost use Rattle.std.proofs.Props.{props};
 ghost use Rattle.vixplot.specs.Answers.{IsLineInRange, IsTickInRange, is_published, is_refused, is_undecided, mark_of};
-ghost use Rattle.vixplot.specs.Days.{AreMarks, IsInTime, IsLineFault, IsNext, IsTickFault, IsTimeBack, counts_of, figures_of, is_end, ticks_with};
+ghost use Rattle.vixplot.specs.Days.{AreMarks, IsInTime, IsDayFault, IsNext, IsTickFault, IsTimeBack, counts_of, figures_of, is_end, ticks_with};
 
 use crate::answer::{Answer, Counts, Line, Tick};
 use crate::fault::Fault;
@@ -54,7 +54,7 @@ impl Day {
         ensures next { OnOk result (IsNext self.old.ticks.items line) }
         ensures refused { OnErr result (self.new.ticks.items ≡ self.old.ticks.items) }
         ensures kept { OnErr result (self.new.has_end ≡ self.old.has_end) }
-        ensures causes { IfErr result (IsLineFault self.old.ticks.items self.old.has_end line) }
+        ensures causes { IfErr result (IsDayFault self.old.ticks.items self.old.has_end line) }
     {
         if self.has_end {
             return Err(Fault::AfterEnd);

@@ -5,7 +5,7 @@ use Rattle.std.proofs.lemmas.Int.{ints}
 use Rattle.std.proofs.lemmas.Nat.{pow-add}
 use Rattle.std.proofs.lemmas.List.Sums.{sum_by-cons}
 use Rattle.vx_interval.specs.Ends.{Ends, IsScale, unit}
-use Rattle.vx_bounds.specs.Exponential.{low_term, high_term, low_sum, high_sum, low_end, high_end, IsTerms, exp_ends, signed_ends}
+use Rattle.vx_bounds.specs.Exponential.{low_term, high_term, low_sum_to, high_sum_to, low_end, high_end, IsTerms, exp_ends, signed_ends}
 use Rattle.vx_bounds.proofs.TermLemmas.{low_step, high_step}
 use Rattle.vx_bounds.proofs.EndLemmas.{low_first, high_first, ends_order, high_end_below}
 use Rattle.vx_bounds.proofs.Steps.{low_sum_next, high_sum_next, low_sum_first, high_sum_first}
@@ -68,12 +68,12 @@ module _ (P p q : ℕ) (low high : List ℕ) (positive : 0 < q) (lows : IsTerms 
   -- the stated sums are the ends
   low_sum_is : stated_low_sum low ≡ low_end (2 ^ P) p q
   unfolding low_end
-  low_sum_is = front_is (low_term (2 ^ P) p q) (low_sum (2 ^ P) p q) low lows (low_sum_first (2 ^ P) p q ∙ sym (low_first (2 ^ P) p q)) (low_sum_next (2 ^ P) p q) 12 (omega arith)
+  low_sum_is = front_is (low_term (2 ^ P) p q) (low_sum_to (2 ^ P) p q) low lows (low_sum_first (2 ^ P) p q ∙ sym (low_first (2 ^ P) p q)) (low_sum_next (2 ^ P) p q) 12 (omega arith)
 
   high_sum_is : stated_high_sum high ≡ high_end (2 ^ P) p q
   unfolding high_end
   high_sum_is =
-      let front = front_is (high_term (2 ^ P) p q) (high_sum (2 ^ P) p q) high highs (high_sum_first (2 ^ P) p q ∙ sym (high_first (2 ^ P) p q)) (high_sum_next (2 ^ P) p q) 12 (omega arith) in
+      let front = front_is (high_term (2 ^ P) p q) (high_sum_to (2 ^ P) p q) high highs (high_sum_first (2 ^ P) p q ∙ sym (high_first (2 ^ P) p q)) (high_sum_next (2 ^ P) p q) 12 (omega arith) in
       let last = highs.each 13 (omega arith) in
       omega (arith, front, last)
 

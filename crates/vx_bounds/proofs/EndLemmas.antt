@@ -1,6 +1,6 @@
 -- How wide the exponential's ends lie apart, and how large they are.
 use Rattle.std.proofs.Common.{◌≡◌, ℕ, zero, suc, ◌+◌, ◌*◌, ◌^◌, ◌<◌, ◌≤◌, refl, arith, mul-le-mul_right, le_refl, le_trans}
-use Rattle.vx_bounds.specs.Exponential.{low_term, high_term, low_sum, high_sum, low_end, high_end}
+use Rattle.vx_bounds.specs.Exponential.{low_term, high_term, low_sum_to, high_sum_to, low_end, high_end}
 use Rattle.vx_bounds.proofs.TermLemmas.{low_under_high, first_gap, next_gap, high_shrinks, low_shrinks}
 
 -- what is known of the scale
@@ -67,21 +67,21 @@ gap_after u p q zero h s = let g : high_term u p q 1 ≤ low_term u p q 1 + 1 = 
 gap_after u p q (suc k) h s = next_gap u p q (suc k) h s (gap_after u p q k h s)
 
 -- the sums of the terms up to n are 2*n - 1 apart
-pub sum_gap : (u p q n : ℕ) → 0 < q → 8 * p ≤ q → high_sum u p q (suc n) ≤ low_sum u p q (suc n) + (2 * n + 1)
-unfolding high_sum low_sum
+pub sum_gap : (u p q n : ℕ) → 0 < q → 8 * p ≤ q → high_sum_to u p q (suc n) ≤ low_sum_to u p q (suc n) + (2 * n + 1)
+unfolding high_sum_to low_sum_to
 sum_gap u p q zero h s =
     let a = high_first u p q in
     let b = low_first u p q in
     let g : high_term u p q 1 ≤ low_term u p q 1 + 1 = first_gap u p q h in
     omega arith
 sum_gap u p q (suc n) h s =
-    let before : high_sum u p q (suc n) ≤ low_sum u p q (suc n) + (2 * n + 1) = sum_gap u p q n h s in
+    let before : high_sum_to u p q (suc n) ≤ low_sum_to u p q (suc n) + (2 * n + 1) = sum_gap u p q n h s in
     let here : high_term u p q (suc (suc n)) ≤ low_term u p q (suc (suc n)) + 2 = gap_after u p q (suc n) h s in
     omega arith
 
 -- the low sum is at most the high sum
-pub sum_order : (u p q n : ℕ) → 0 < q → low_sum u p q n ≤ high_sum u p q n
-unfolding high_sum low_sum
+pub sum_order : (u p q n : ℕ) → 0 < q → low_sum_to u p q n ≤ high_sum_to u p q n
+unfolding high_sum_to low_sum_to
 sum_order u p q zero h = low_under_high u p q 0 h
 sum_order u p q (suc n) h = let a = sum_order u p q n h in let b = low_under_high u p q (suc n) h in omega arith
 
@@ -94,13 +94,13 @@ ends_order u p q h = let a = sum_order u p q 12 h in omega arith
 pub ends_close : (u p q : ℕ) → 0 < q → 8 * p ≤ q → u ≤ 2 ^ 62 → high_end u p q ≤ low_end u p q + 25
 unfolding low_end high_end
 ends_close u p q h s l =
-    let g : high_sum u p q 12 ≤ low_sum u p q 12 + 23 = sum_gap u p q 11 h s in
+    let g : high_sum_to u p q 12 ≤ low_sum_to u p q 12 + 23 = sum_gap u p q 11 h s in
     let t : high_term u p q 13 ≤ 1 = last_term u p q h s l in
     omega arith
 
 -- u <= A
-pub low_sum_grows : (u p q n : ℕ) → u ≤ low_sum u p q n
-unfolding low_sum
+pub low_sum_grows : (u p q n : ℕ) → u ≤ low_sum_to u p q n
+unfolding low_sum_to
 low_sum_grows u p q zero = rw (low_first u p q) (le_refl u)
 low_sum_grows u p q (suc n) = let a = low_sum_grows u p q n in omega arith
 
@@ -111,7 +111,7 @@ low_end_above u p q = low_sum_grows u p q 12
 
 -- 1000 * B <= 1134 * u
 pub high_end_below : (u p q : ℕ) → 0 < q → 8 * p ≤ q → IsUnit u → 1000 * high_end u p q ≤ 1134 * u
-unfolding high_end high_sum
+unfolding high_end high_sum_to
 high_end_below u p q h s k =
     let e = high_first u p q in
     let w = k.whole in
@@ -136,8 +136,8 @@ high_end_below u p q h s k =
 -- ---- sums on the way fit: what is added so far and the last term are at most 2*u, and 2 for each rounding up
 
 -- the low sum with its last term stays within twice the unit
-pub low_so_far : (u p q n : ℕ) → 0 < q → 8 * p ≤ q → low_sum u p q n + low_term u p q n ≤ 2 * u
-unfolding low_sum
+pub low_so_far : (u p q n : ℕ) → 0 < q → 8 * p ≤ q → low_sum_to u p q n + low_term u p q n ≤ 2 * u
+unfolding low_sum_to
 low_so_far u p q zero h s = let e = low_first u p q in omega arith
 low_so_far u p q (suc n) h s =
     let before = low_so_far u p q n h s in
@@ -150,8 +150,8 @@ half zero b c two h = omega arith
 half (suc a) b c two h = let k : 2 * a ≤ c * a = mul-le-mul_right a two in let n : c * a + c < b + c = omega arith in omega arith
 
 -- the high sum with its last term stays within twice the unit and twice the count of terms
-pub high_so_far : (u p q n : ℕ) → 0 < q → 8 * p ≤ q → high_sum u p q n + high_term u p q n ≤ 2 * u + 2 * n
-unfolding high_sum
+pub high_so_far : (u p q n : ℕ) → 0 < q → 8 * p ≤ q → high_sum_to u p q n + high_term u p q n ≤ 2 * u + 2 * n
+unfolding high_sum_to
 high_so_far u p q zero h s = let e = high_first u p q in omega arith
 high_so_far u p q (suc n) h s =
     let before = high_so_far u p q n h s in

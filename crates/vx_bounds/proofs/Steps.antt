@@ -4,7 +4,7 @@ use Rattle.std.proofs.lemmas.List.{get_or-set_same, get_or-set_other, length-set
 use Rattle.std.proofs.lemmas.Bool.{cases_lt}
 use Rattle.std.proofs.Math.Nat.{div-le_of_le-mul}
 use Rattle.std.specs.Int.{div_ceil}
-use Rattle.vx_bounds.specs.Exponential.{IsTerms, low_term, high_term, low_sum, high_sum}
+use Rattle.vx_bounds.specs.Exponential.{IsTerms, low_term, high_term, low_sum_to, high_sum_to}
 use Rattle.vx_bounds.proofs.TermLemmas.{divisor_positive, ceil_below}
 use Rattle.vx_bounds.proofs.EndLemmas.{low_first, high_first}
 use Rattle.vx_bounds.proofs.Loops.{Collects}
@@ -49,13 +49,13 @@ unfolding high_term
 high_next_is u p q k = rw (add-one k) refl
 
 -- the next low sum
-pub low_sum_next : (u p q k : ℕ) → low_sum u p q (k + 1) ≡ low_sum u p q k + low_term u p q (k + 1)
-unfolding low_sum
+pub low_sum_next : (u p q k : ℕ) → low_sum_to u p q (k + 1) ≡ low_sum_to u p q k + low_term u p q (k + 1)
+unfolding low_sum_to
 low_sum_next u p q k = rw (add-one k) refl
 
 -- the next high sum
-pub high_sum_next : (u p q k : ℕ) → high_sum u p q (k + 1) ≡ high_sum u p q k + high_term u p q (k + 1)
-unfolding high_sum
+pub high_sum_next : (u p q k : ℕ) → high_sum_to u p q (k + 1) ≡ high_sum_to u p q k + high_term u p q (k + 1)
+unfolding high_sum_to
 high_sum_next u p q k = rw (add-one k) refl
 
 -- the loop gathers one term more
@@ -97,11 +97,11 @@ terms_done term sum k terms last added next e c n =
     }
 
 -- the first low sum is the unit
-pub low_sum_first : (u p q : ℕ) → low_sum u p q 0 ≡ u
-unfolding low_sum
+pub low_sum_first : (u p q : ℕ) → low_sum_to u p q 0 ≡ u
+unfolding low_sum_to
 low_sum_first u p q = low_first u p q
 
 -- and so is the first high sum
-pub high_sum_first : (u p q : ℕ) → high_sum u p q 0 ≡ u
-unfolding high_sum
+pub high_sum_first : (u p q : ℕ) → high_sum_to u p q 0 ≡ u
+unfolding high_sum_to
 high_sum_first u p q = high_first u p q

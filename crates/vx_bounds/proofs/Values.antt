@@ -14,7 +14,7 @@ use Rattle.vx_bracket.specs.Cleared.{series_bottom, series_top, upper_top}
 use Rattle.vx_bracket.proofs.Series.{natural}
 use Rattle.vx_bracket.proofs.Members.{bracket_up, bracket_down, members_are_positive}
 use Rattle.vx_bracket.proofs.Terms.{partial_sum, sum_below, value_above, enclosed_up, enclosed_down}
-use Rattle.vx_bounds.specs.Exponential.{IsTerms, low_term, high_term, low_sum, high_sum, low_end, high_end, IsTightValue, exp_ends, signed_ends}
+use Rattle.vx_bounds.specs.Exponential.{IsTerms, low_term, high_term, low_sum_to, high_sum_to, low_end, high_end, IsTightValue, exp_ends, signed_ends}
 use Rattle.vx_bounds.proofs.TermLemmas.{low_step, high_step}
 use Rattle.vx_bounds.proofs.EndLemmas.{IsUnit, last_term, ends_order, ends_close, low_end_above, high_end_below, low_first, high_first}
 
@@ -27,13 +27,13 @@ unit_facts P h =
 
 -- ---- enclosure
 
-low_sum_is : (u p q n : ℕ) → low_sum u p q n ≡ partial_sum (low_term u p q) n
-unfolding low_sum partial_sum
+low_sum_is : (u p q n : ℕ) → low_sum_to u p q n ≡ partial_sum (low_term u p q) n
+unfolding low_sum_to partial_sum
 low_sum_is u p q zero = refl
 low_sum_is u p q (suc n) = ap (λ z. z + low_term u p q (suc n)) (low_sum_is u p q n)
 
-high_sum_is : (u p q n : ℕ) → high_sum u p q n ≡ partial_sum (high_term u p q) n
-unfolding high_sum partial_sum
+high_sum_is : (u p q n : ℕ) → high_sum_to u p q n ≡ partial_sum (high_term u p q) n
+unfolding high_sum_to partial_sum
 high_sum_is u p q zero = refl
 high_sum_is u p q (suc n) = ap (λ z. z + high_term u p q (suc n)) (high_sum_is u p q n)
 
@@ -215,21 +215,21 @@ pub record IsFound (P p q low high last : ℕ) : Type 0 where
   pub fits : high + 2 * last < 2 ^ 63
   pub ordered : low ≤ high + 2 * last
 
-sums_are_found : (P p q low high last : ℕ) → IsScale P → 0 < q → 8 * p ≤ q → low ≡ low_sum (2 ^ P) p q 12 → high ≡ high_sum (2 ^ P) p q 12 → last ≡ high_term (2 ^ P) p q 13 → IsFound P p q low high last
+sums_are_found : (P p q low high last : ℕ) → IsScale P → 0 < q → 8 * p ≤ q → low ≡ low_sum_to (2 ^ P) p q 12 → high ≡ high_sum_to (2 ^ P) p q 12 → last ≡ high_term (2 ^ P) p q 13 → IsFound P p q low high last
 unfolding low_end high_end
 sums_are_found P p q low high last s hq h a b e =
     let u = unit_facts P s in
     let most = u.high in
-    let f : high + 2 * last ≡ high_sum (2 ^ P) p q 12 + 2 * high_term (2 ^ P) p q 13 = omega arith in
+    let f : high + 2 * last ≡ high_sum_to (2 ^ P) p q 12 + 2 * high_term (2 ^ P) p q 13 = omega arith in
     let small : high_term (2 ^ P) p q 13 ≤ 1 = last_term (2 ^ P) p q hq h most in
-    let below : 1000 * (high_sum (2 ^ P) p q 12 + 2 * high_term (2 ^ P) p q 13) ≤ 1134 * 2 ^ P = high_end_below (2 ^ P) p q hq h u in
-    let order : low_sum (2 ^ P) p q 12 ≤ high_sum (2 ^ P) p q 12 + 2 * high_term (2 ^ P) p q 13 = ends_order (2 ^ P) p q hq in
+    let below : 1000 * (high_sum_to (2 ^ P) p q 12 + 2 * high_term (2 ^ P) p q 13) ≤ 1134 * 2 ^ P = high_end_below (2 ^ P) p q hq h u in
+    let order : low_sum_to (2 ^ P) p q 12 ≤ high_sum_to (2 ^ P) p q 12 + 2 * high_term (2 ^ P) p q 13 = ends_order (2 ^ P) p q hq in
     record { low_is = a; high_is = f; last_small = omega arith; fits = omega arith; ordered = omega arith }
 
 -- the sums of a complete loop do
-pub found : (P p q one low high : ℕ) (terms : List ℕ) → IsScale P → 0 < q → 8 * p ≤ q → one ≡ 2 ^ P → low ≡ low_sum one p q 12 → high ≡ high_sum one p q 12 → IsTerms (high_term one p q) terms → IsFound P p q low high (get_or terms 13 0)
+pub found : (P p q one low high : ℕ) (terms : List ℕ) → IsScale P → 0 < q → 8 * p ≤ q → one ≡ 2 ^ P → low ≡ low_sum_to one p q 12 → high ≡ high_sum_to one p q 12 → IsTerms (high_term one p q) terms → IsFound P p q low high (get_or terms 13 0)
 found P p q one low high terms s hq h e a b t =
-    sums_are_found P p q low high (get_or terms 13 0) s hq h (a ∙ ap (λ u. low_sum u p q 12) e) (b ∙ ap (λ u. high_sum u p q 12) e) (t.each 13 (omega arith) ∙ ap (λ u. high_term u p q 13) e)
+    sums_are_found P p q low high (get_or terms 13 0) s hq h (a ∙ ap (λ u. low_sum_to u p q 12) e) (b ∙ ap (λ u. high_sum_to u p q 12) e) (t.each 13 (omega arith) ∙ ap (λ u. high_term u p q 13) e)
 
 -- the unit of each scale is at most 2^62
 pub units_small : (P one : ℕ) → IsScale P → one ≡ 2 ^ P → one ≤ 2 ^ 62

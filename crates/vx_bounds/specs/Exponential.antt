@@ -15,13 +15,13 @@ high_term u p q zero = u
 high_term u p q (suc k) = div_ceil (high_term u p q k * p) (q * suc k)
 
 -- the terms from 0 to n, added
-unfoldable pub low_sum : ℕ → ℕ → ℕ → ℕ → ℕ
-low_sum u p q zero = low_term u p q 0
-low_sum u p q (suc n) = low_sum u p q n + low_term u p q (suc n)
+unfoldable pub low_sum_to : ℕ → ℕ → ℕ → ℕ → ℕ
+low_sum_to u p q zero = low_term u p q 0
+low_sum_to u p q (suc n) = low_sum_to u p q n + low_term u p q (suc n)
 
-unfoldable pub high_sum : ℕ → ℕ → ℕ → ℕ → ℕ
-high_sum u p q zero = high_term u p q 0
-high_sum u p q (suc n) = high_sum u p q n + high_term u p q (suc n)
+unfoldable pub high_sum_to : ℕ → ℕ → ℕ → ℕ → ℕ
+high_sum_to u p q zero = high_term u p q 0
+high_sum_to u p q (suc n) = high_sum_to u p q n + high_term u p q (suc n)
 
 -- a list of the first 14 terms
 pub record IsTerms (term : ℕ → ℕ) (terms : List ℕ) : Type 0 where
@@ -30,10 +30,10 @@ pub record IsTerms (term : ℕ → ℕ) (terms : List ℕ) : Type 0 where
 
 -- terms 0 to 12 on either side, and twice the last upper term for all that follows
 unfoldable pub low_end : ℕ → ℕ → ℕ → ℕ
-low_end u p q = low_sum u p q 12
+low_end u p q = low_sum_to u p q 12
 
 unfoldable pub high_end : ℕ → ℕ → ℕ → ℕ
-high_end u p q = high_sum u p q 12 + 2 * high_term u p q 13
+high_end u p q = high_sum_to u p q 12 + 2 * high_term u p q 13
 
 abbrev pub exp_ends : ℕ → ℕ → ℕ → Ends
 exp_ends P p q = record { lo = pos (low_end (2 ^ P) p q); hi = pos (high_end (2 ^ P) p q) }

@@ -6,7 +6,7 @@ ghost use Rattle.vx_num.specs.Fraction.{Fraction};
 ghost use Rattle.vx_interval.specs.Ends.{IsScale, unit, width};
 ghost use Rattle.vx_interval.specs.Membership.{IsMember};
 ghost use Rattle.vx_bracket.specs.Bracket.{Bracket};
-ghost use Rattle.vx_bounds.specs.Exponential.{IsTerms, IsTightValue, exp_ends, high_sum, high_term, low_sum, low_term, signed_ends};
+ghost use Rattle.vx_bounds.specs.Exponential.{IsTerms, IsTightValue, exp_ends, high_sum_to, high_term, low_sum_to, low_term, signed_ends};
 
 use vx_interval::{Iv, power_of_two};
 use vx_num::{div_ceil, div_floor};
@@ -69,7 +69,7 @@ fn low_terms(first: u64, p: u64, q: u64) -> Terms
     requires divisor { (0 < q) × (q < 2 ^ 46) }
     requires small { 8 * p ≤ q }
     ensures terms { IsTerms (low_term first p q) result.terms }
-    ensures sum { result.sum ≡ low_sum first p q 12 }
+    ensures sum { result.sum ≡ low_sum_to first p q 12 }
 {
     let mut terms = [first; 14];
     let mut term = first;
@@ -89,7 +89,7 @@ fn high_terms(first: u64, p: u64, q: u64) -> Terms
     requires divisor { (0 < q) × (q < 2 ^ 46) }
     requires small { 8 * p ≤ q }
     ensures terms { IsTerms (high_term first p q) result.terms }
-    ensures sum { result.sum ≡ high_sum first p q 12 }
+    ensures sum { result.sum ≡ high_sum_to first p q 12 }
 {
     let mut terms = [first; 14];
     let mut term = first;

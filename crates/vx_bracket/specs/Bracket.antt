@@ -32,8 +32,8 @@ pub record IsBetweenSums (n : ℕ) (x f : Fraction) : Type 0 where
   pub below_upper : f ≤ᶠ series_upper n x
 
 -- -x
-abbrev pub opposite : Fraction → Fraction
-opposite x = record { top = neg_ℤ x.top; bottom = x.bottom }
+abbrev pub negated : Fraction → Fraction
+negated x = record { top = neg_ℤ x.top; bottom = x.bottom }
 
 -- 1/f of a positive fraction
 abbrev pub reciprocal : Fraction → Fraction
@@ -44,7 +44,7 @@ reciprocal f = record { top = pos f.bottom; bottom = nat_abs f.top }
 pub record Bracket (n : ℕ) (x f : Fraction) : Type 0 where
   pub proper : IsProper f
   pub from_zero : pos 0 ≤ℤ x.top → IsBetweenSums n x f
-  pub below_zero : x.top <ℤ pos 0 → (pos 0 <ℤ f.top) × IsBetweenSums n (opposite x) (reciprocal f)
+  pub below_zero : x.top <ℤ pos 0 → (pos 0 <ℤ f.top) × IsBetweenSums n (negated x) (reciprocal f)
 
 -- the exponent is from -1 to 1, where the sums close in on the exponential
 abbrev pub IsWithinOne : Fraction → Type 0

@@ -1,7 +1,7 @@
 -- The laws of the exponential's bracket.
 use Rattle.std.specs.Prelude.{◌≡◌, ℕ, ◌≤◌, ◌↔◌, pos, ◌<ℤ◌}
 use Rattle.vx_num.specs.Fraction.{Fraction, IsProper, whole, ◌≃ᶠ◌}
-use Rattle.vx_bracket.specs.Bracket.{Bracket, IsBetweenSums, IsWithinOne, opposite, reciprocal}
+use Rattle.vx_bracket.specs.Bracket.{Bracket, IsBetweenSums, IsWithinOne, negated, reciprocal}
 
 -- every bracket has a member
 abbrev pub BracketHasMember : Type 0
@@ -26,4 +26,4 @@ ZeroGivesOne = (n : ℕ) (x f : Fraction) → IsProper x → x.top ≡ pos 0 →
 -- at exponent 0 the form for negative exponents says the same as the form for the others
 abbrev pub FormsAgreeAtZero : Type 0
 FormsAgreeAtZero = (n : ℕ) (x f : Fraction) → IsProper x → IsProper f → x.top ≡ pos 0 →
-    IsBetweenSums n x f ↔ ((pos 0 <ℤ f.top) × IsBetweenSums n (opposite x) (reciprocal f))
+    IsBetweenSums n x f ↔ ((pos 0 <ℤ f.top) × IsBetweenSums n (negated x) (reciprocal f))

@@ -16,7 +16,7 @@ use Rattle.vx_symbol.specs.Rows.{IsRateInRange}
 use Rattle.vx_symbol.specs.Symbol.{IsStrikeInRange, IsSymbolInRange}
 use Rattle.vx_interval.specs.Ends.{Ends, unit, least_of_four, greatest_of_four, least_square, greatest_square}
 use Rattle.vx_interval.specs.Rounding.{floor_of, ceiling_of}
-use Rattle.vx_bounds.specs.Exponential.{IsTerms, low_term, high_term, low_sum, high_sum, low_end, high_end}
+use Rattle.vx_bounds.specs.Exponential.{IsTerms, low_term, high_term, low_sum_to, high_sum_to, low_end, high_end}
 use Rattle.vx_bounds.specs.Cents.{Decides}
 use Rattle.vx_bounds.specs.declared.cents.Decision.TheVariants.{Cents}
 use Rattle.vx_feed.specs.declared.events.Event.{Event}
@@ -195,7 +195,7 @@ unfolding high_term
 high_values = refl
 
 exp_is : (x : Expiry) (minutes : ℕ) → pos 0 *ℤ pos minutes ≡ pos 0 → IsExpRun SCALE (exponent (pos 0) minutes) (run_of x minutes).exp
-unfolding low_term high_term low_sum high_sum low_end high_end
+unfolding low_term high_term low_sum_to high_sum_to low_end high_end
 exp_is x minutes none =
     subst (λ (z : ℤ). IsExpRun SCALE (record { top = z; bottom = bottom }) (run_of x minutes).exp) (sym none) (
     record {

@@ -20,7 +20,7 @@ use Rattle.vx_term.specs.declared.answer.TermRun.{TermRun}
 use Rattle.vx_soq.specs.declared.answer.OpeningAnswer.{OpeningAnswer}
 use Rattle.vx_soq.specs.declared.answer.OpeningAnswer.TheVariants.{Published, Refused, UndecidedForward, UndecidedCents}
 use Rattle.vx_soq.specs.declared.answer.SoqReason.TheVariants.{NoOpening, NoTerm, Term, NegativeVariance}
-use Rattle.vx_soq.specs.Figures.{opening_certificate, IsJoined}
+use Rattle.vx_soq.specs.Figures.{opening_certificate, IsAnswerByTerm}
 use Rattle.vx_soq.specs.Openings.{IsAnswerOfTerm, IsOpeningAnswer}
 use Rattle.vx_existence.specs.Existence.{OpeningHasAnswer}
 use Rattle.vx_existence.proofs.Roots.{square_has_index_ends}
@@ -35,7 +35,7 @@ IsOfTerm _ = Unit {0}
 
 module _ (line time : ℕ) where
   abbrev Joined : TermAnswer SCALE → Type 0
-  Joined answered = (answer : OpeningAnswer) × IsJoined line time answered answer × IsOfTerm answer
+  Joined answered = (answer : OpeningAnswer) × IsAnswerByTerm line time answered answer × IsOfTerm answer
 
   of_decision : (run : TermRun SCALE) (lo hi : ℤ) → AreIndexEnds SCALE (single_ends run.w) lo hi
       → (decision : Decision) → Decides lo hi decision → Joined (term.Run run)

@@ -15,7 +15,7 @@ use Rattle.vx_symbol.specs.SymbolText.{symbol_text}
 use Rattle.vx_feed.specs.declared.events.Event.TheVariants as event
 use Rattle.vx_feed.specs.declared.events.Event.{Event}
 use Rattle.vx_feed.specs.Written.{event_line, event_text, text_of_events, price_text}
-use Rattle.vx_make.specs.Quotes.{series_at}
+use Rattle.vx_make.specs.Quotes.{sample_series_at}
 
 two_last_digits : (cents : ℕ) → last_digits 2 cents ≡ digit_byte (cents / 10 % 10) ∷ digit_byte (cents % 10) ∷ []
 unfolding last_digits
@@ -47,7 +47,7 @@ unfolding symbol_text
 put_text Spx date strike = refl
 put_text Spxw date strike = refl
 
-pub put_symbol : (x : Expiry) (place : ℕ) → slice_set (symbol_text (series_at x Call place)) 12 80 ≡ symbol_text (series_at x Put place)
+pub put_symbol : (x : Expiry) (place : ℕ) → slice_set (symbol_text (sample_series_at x Call place)) 12 80 ≡ symbol_text (sample_series_at x Put place)
 put_symbol x place = put_text x.root x.date _
 
 -- two lines after one another

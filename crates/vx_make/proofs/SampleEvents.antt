@@ -25,7 +25,7 @@ use Rattle.vx_feed.proofs.CauseLemmas.{in_order_has_no_cause}
 use Rattle.vx_feed.proofs.NextEvent.{any-push}
 use Rattle.vx_feed.proofs.StrikeLemmas.{length-strike_more}
 use Rattle.vx_make.specs.Drawing.{next_state, state_after}
-use Rattle.vx_make.specs.Quotes.{for_each, strike_at, series_at, intrinsic_value, time_value, drawn_bid, drawn_ask, drawn_quote, strike_quotes, expiry_quotes, drawn_centre}
+use Rattle.vx_make.specs.Quotes.{for_each, sample_strike_at, sample_series_at, intrinsic_value, time_value, drawn_bid, drawn_ask, drawn_quote, strike_quotes, expiry_quotes, drawn_centre}
 use Rattle.vx_make.specs.Feed.{header, standard_term, weekly_term, declared_terms, strike_series, listed_series, tick_events, ticks_events, body_events}
 use Rattle.vx_make.specs.Lawful.{SamplesAreLawful}
 use Rattle.vx_make.proofs.FeedLemmas.{length-for_each, length-tick, length-body}
@@ -125,65 +125,65 @@ series_may_come earlier s is declared no_end unlisted few =
     (refl, (no_end, (refl, (refl, (unlisted, (not_from_true (is_declared (expiry_of s) (start ++ earlier)) declared, (few_more, (refl, (refl, (refl, tt))))))))))
 
 -- series at other strikes are not the same
-lists_other_strike : (x : Expiry) (a b : Side) (i j : ℕ) → j < i → lists_series (series_at x a i) (event.Series (series_at x b j)) ≡ false
+lists_other_strike : (x : Expiry) (a b : Side) (i j : ℕ) → j < i → lists_series (sample_series_at x a i) (event.Series (sample_series_at x b j)) ≡ false
 lists_other_strike x a b i j less =
-    and_right (is_same_root x.root x.root && is_same_day x.date x.date && is_same_side a b) (strike_at i == strike_at j)
-    (ne_eqb (strike_at i) (strike_at j) (λ same. omega arith))
+    and_right (is_same_root x.root x.root && is_same_day x.date x.date && is_same_side a b) (sample_strike_at i == sample_strike_at j)
+    (ne_eqb (sample_strike_at i) (sample_strike_at j) (λ same. omega arith))
 
 -- the put is not the call
-lists_other_side : (x : Expiry) (i : ℕ) → lists_series (series_at x Put i) (event.Series (series_at x Call i)) ≡ false
+lists_other_side : (x : Expiry) (i : ℕ) → lists_series (sample_series_at x Put i) (event.Series (sample_series_at x Call i)) ≡ false
 lists_other_side x i =
-    and_left (is_same_root x.root x.root && is_same_day x.date x.date && is_same_side Put Call) (strike_at i == strike_at i)
+    and_left (is_same_root x.root x.root && is_same_day x.date x.date && is_same_side Put Call) (sample_strike_at i == sample_strike_at i)
     (and_right (is_same_root x.root x.root && is_same_day x.date x.date) (is_same_side Put Call) refl)
 
 -- the series at earlier strikes are other ones
-new_strike : (x : Expiry) (side : Side) (i : ℕ) → is_listed (series_at x side i) (for_each i (strike_series x)) ≡ false
+new_strike : (x : Expiry) (side : Side) (i : ℕ) → is_listed (sample_series_at x side i) (for_each i (strike_series x)) ≡ false
 new_strike x side i =
-    none-for_each (lists_series (series_at x side i)) (strike_series x) i
+    none-for_each (lists_series (sample_series_at x side i)) (strike_series x) i
     (λ j less. or_from _ _ (lists_other_strike x side Call i j less) (or_from _ _ (lists_other_strike x side Put i j less) refl))
 
 no_end_listed : (x : Expiry) (n : ℕ) → list_any is_end (for_each n (strike_series x)) ≡ false
 no_end_listed x n = none-for_each is_end (strike_series x) n (λ i less. refl)
 
-series_in_range : (x : Expiry) (side : Side) (i : ℕ) → IsDayInRange x.date → i < 200 → IsSymbolInRange (series_at x side i)
+series_in_range : (x : Expiry) (side : Side) (i : ℕ) → IsDayInRange x.date → i < 200 → IsSymbolInRange (sample_series_at x side i)
 series_in_range x side i day less = record { date = day; strike = (omega arith, omega arith) }
 
 -- the series of a declared term may be listed, strike by strike
 lawful_series : (x : Expiry) (earlier : List Event) → IsDayInRange x.date → ((more : List Event) → is_declared x (start ++ more) ≡ true)
-    → list_any is_end earlier ≡ false → ((side : Side) (i : ℕ) → is_listed (series_at x side i) earlier ≡ false) → length earlier ≤ 400
+    → list_any is_end earlier ≡ false → ((side : Side) (i : ℕ) → is_listed (sample_series_at x side i) earlier ≡ false) → length earlier ≤ 400
     → AreLawfulAfter (start ++ earlier) (listed_series x)
 lawful_series x earlier day declared no_end new few = lawful-for_each (strike_series x) (start ++ earlier) 200 (λ i less.
     let listed = for_each i (strike_series x) in
-    let call = event.Series (series_at x Call i) in
+    let call = event.Series (sample_series_at x Call i) in
     let many : length (earlier ++ listed) ≤ 798 = omega (arith, length-append earlier listed, length-for_each 2 i (strike_series x) (λ j. refl)) in
     let more : length ((earlier ++ listed) ++ call ∷ []) ≤ 800 = omega (arith, length-append (earlier ++ listed) (call ∷ [])) in
     let none = none-append is_end earlier listed no_end (no_end_listed x i) in
-    let new_call = none-append (lists_series (series_at x Call i)) earlier listed (new Call i) (new_strike x Call i) in
-    let new_put = none-append (lists_series (series_at x Put i)) earlier listed (new Put i) (new_strike x Put i) in (
-      series_may_come (earlier ++ listed) (series_at x Call i) (series_in_range x Call i day less) (declared (earlier ++ listed)) none new_call (omega arith),
+    let new_call = none-append (lists_series (sample_series_at x Call i)) earlier listed (new Call i) (new_strike x Call i) in
+    let new_put = none-append (lists_series (sample_series_at x Put i)) earlier listed (new Put i) (new_strike x Put i) in (
+      series_may_come (earlier ++ listed) (sample_series_at x Call i) (series_in_range x Call i day less) (declared (earlier ++ listed)) none new_call (omega arith),
       (
-        series_may_come ((earlier ++ listed) ++ call ∷ []) (series_at x Put i) (series_in_range x Put i day less) (declared ((earlier ++ listed) ++ call ∷ []))
+        series_may_come ((earlier ++ listed) ++ call ∷ []) (sample_series_at x Put i) (series_in_range x Put i day less) (declared ((earlier ++ listed) ++ call ∷ []))
             (none-push is_end (earlier ++ listed) call none refl)
-            (none-push (lists_series (series_at x Put i)) (earlier ++ listed) call new_put (lists_other_side x i)) more,
+            (none-push (lists_series (sample_series_at x Put i)) (earlier ++ listed) call new_put (lists_other_side x i)) more,
         tt,
       ),
     ))
 
 -- the series of the weekly term are not those of the standard one
-weekly_new : (side : Side) (i : ℕ) → is_listed (series_at weekly_term side i) (listed_series standard_term) ≡ false
-weekly_new side i = none-for_each (lists_series (series_at weekly_term side i)) (strike_series standard_term) 200 (λ j less. refl)
+weekly_new : (side : Side) (i : ℕ) → is_listed (sample_series_at weekly_term side i) (listed_series standard_term) ≡ false
+weekly_new side i = none-for_each (lists_series (sample_series_at weekly_term side i)) (strike_series standard_term) 200 (λ j less. refl)
 
 -- ---- the prices that are drawn
 
-intrinsic_value-le : (side : Side) (x : Expiry) (centre i : ℕ) → centre ≤ 197000 → i < 200 → intrinsic_value centre (series_at x side i) ≤ 300000
+intrinsic_value-le : (side : Side) (x : Expiry) (centre i : ℕ) → centre ≤ 197000 → i < 200 → intrinsic_value centre (sample_series_at x side i) ≤ 300000
 intrinsic_value-le Call x centre i most less = omega arith
 intrinsic_value-le Put x centre i most less = omega arith
 
-bid_in_range : (side : Side) (x : Expiry) (centre i state : ℕ) → centre ≤ 197000 → i < 200 → drawn_bid centre (series_at x side i) state ≤ 310000
+bid_in_range : (side : Side) (x : Expiry) (centre i state : ℕ) → centre ≤ 197000 → i < 200 → drawn_bid centre (sample_series_at x side i) state ≤ 310000
 unfolding drawn_bid
 bid_in_range side x centre i state most less =
     let paid = intrinsic_value-le side x centre i most less in
-    let worth : time_value centre (series_at x side i) ≤ 3000 = omega arith in
+    let worth : time_value centre (sample_series_at x side i) ≤ 3000 = omega arith in
     omega arith
 
 ask_in_range : (bid state : ℕ) → bid ≤ 310000 → drawn_ask bid state ≤ 400000
@@ -252,11 +252,11 @@ lawful_minute time (e ∷ events) earlier all no_end early few =
     )
 
 quote_timed : (time centre : ℕ) (x : Expiry) (side : Side) (i state : ℕ) → time ≤ 1439 → centre ≤ 197000 → IsDayInRange x.date → i < 200
-    → IsTimed time (drawn_quote time centre (series_at x side i) state)
+    → IsTimed time (drawn_quote time centre (sample_series_at x side i) state)
 unfolding drawn_quote
 quote_timed time centre x side i state minute most day less =
     let bid = bid_in_range side x centre i (next_state state) most less in
-    let ask = ask_in_range (drawn_bid centre (series_at x side i) (next_state state)) (next_state (next_state state)) bid in
+    let ask = ask_in_range (drawn_bid centre (sample_series_at x side i) (next_state state)) (next_state (next_state state)) bid in
     (refl, (minute, series_in_range x side i day less, omega arith, omega arith))
 
 quotes_timed : (time centre : ℕ) (x : Expiry) (state : ℕ) → time ≤ 1439 → centre ≤ 197000 → IsDayInRange x.date → All (IsTimed time) (expiry_quotes time centre x state)

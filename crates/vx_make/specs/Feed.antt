@@ -9,7 +9,7 @@ use Rattle.vx_feed.specs.declared.events.Event.TheVariants as event
 use Rattle.vx_feed.specs.Written.{text_of_events}
 use Rattle.vx_make.specs.declared.limits.TheConstants.{FIRST_MINUTE, TRADE_DAY, STANDARD_DAY, WEEKLY_DAY, STANDARD_RATE, WEEKLY_RATE, STRIKES}
 use Rattle.vx_make.specs.Drawing.{next_state, state_after}
-use Rattle.vx_make.specs.Quotes.{for_each, series_at, expiry_quotes, drawn_centre}
+use Rattle.vx_make.specs.Quotes.{for_each, sample_series_at, expiry_quotes, drawn_centre}
 
 -- the two terms
 abbrev pub standard_term : Expiry
@@ -29,7 +29,7 @@ declared_terms =
 
 -- the call and the put of a term at a strike
 abbrev pub strike_series : Expiry → ℕ → List Event
-strike_series x i = event.Series (series_at x Call i) ∷ event.Series (series_at x Put i) ∷ []
+strike_series x i = event.Series (sample_series_at x Call i) ∷ event.Series (sample_series_at x Put i) ∷ []
 
 -- the series of a term, strike by strike
 abbrev pub listed_series : Expiry → List Event

@@ -16,12 +16,12 @@ for_each zero part = []
 for_each (suc n) part = for_each n part ++ part n
 
 -- the i-th strike, from 0, in thousandths of a point
-abbrev pub strike_at : ℕ → ℕ
-strike_at i = STRIKE_FIRST + STRIKE_STEP * i
+abbrev pub sample_strike_at : ℕ → ℕ
+sample_strike_at i = STRIKE_FIRST + STRIKE_STEP * i
 
 -- a series of an expiry by the place of its strike
-abbrev pub series_at : Expiry → Side → ℕ → Symbol
-series_at x side i = record { root = x.root; date = x.date; side = side; strike = strike_at i }
+abbrev pub sample_series_at : Expiry → Side → ℕ → Symbol
+sample_series_at x side i = record { root = x.root; date = x.date; side = side; strike = sample_strike_at i }
 
 -- a series' strike in cents
 abbrev pub strike_cents : Symbol → ℕ
@@ -61,8 +61,8 @@ drawn_quote time centre s state =
 -- the quotes of an expiry's call and put at a strike
 abbrev pub strike_quotes : ℕ → ℕ → Expiry → ℕ → ℕ → List Event
 strike_quotes time centre x i state =
-    drawn_quote time centre (series_at x Call i) state
-    ∷ drawn_quote time centre (series_at x Put i) (next_state (next_state state)) ∷ []
+    drawn_quote time centre (sample_series_at x Call i) state
+    ∷ drawn_quote time centre (sample_series_at x Put i) (next_state (next_state state)) ∷ []
 
 -- the quotes of all series of an expiry, strike by strike, with four draws for each strike
 abbrev pub expiry_quotes : ℕ → ℕ → Expiry → ℕ → List Event

@@ -28,7 +28,7 @@ pub(crate) struct Prices {
 pub(crate) fn series_at(expiry: Expiry, side: Side, place: u32) -> Symbol
     requires place { place < STRIKES }
     requires day { IsDayInRange expiry.date }
-    ensures value { result ≡ spec.series_at expiry side place }
+    ensures value { result ≡ spec.sample_series_at expiry side place }
     ensures strike { result.strike ≤ STRIKE_LAST }
     ensures in_range { IsSymbolInRange result }
 {

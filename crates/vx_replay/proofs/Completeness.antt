@@ -32,7 +32,7 @@ use Rattle.vx_replay.specs.declared.answer.Which.TheVariants.{Near, Next, Both}
 use Rattle.vx_replay.specs.Joined.{IsJoined}
 use Rattle.vx_replay.specs.Ticks.{IsAnswerOfTerms}
 use Rattle.vx_replay.specs.Lawful.{IsLawfulAnswer}
-use Rattle.vx_replay.specs.Complete.{IsAnswered, ClearTickIsPublished, FirstRefusalIsAnswered}
+use Rattle.vx_replay.specs.Complete.{IsTickAnswered, ClearTickIsPublished, FirstRefusalIsAnswered}
 use Rattle.vx_replay.proofs.LawfulTicks.{tick_answer_is_lawful}
 use Rattle.vx_clock.proofs.TermsAreOne.{near_is_one, next_is_one}
 
@@ -83,7 +83,7 @@ module _ (line time days : ℕ) (strike : ℕ) (lo hi : ℤ) where
 
 -- ---- a tick
 
-module _ (days window : ℕ) (events : List Event) (line time : ℕ) (facts : TickFacts) (answer : TickAnswer) (is : IsAnswered days window events line time facts answer) where
+module _ (days window : ℕ) (events : List Event) (line time : ℕ) (facts : TickFacts) (answer : TickAnswer) (is : IsTickAnswered days window events line time facts answer) where
   abbrev before : List Event
   before = events_before events line
 

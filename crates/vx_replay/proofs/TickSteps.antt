@@ -37,7 +37,7 @@ use Rattle.vx_replay.specs.Joined.{IsJoined}
 use Rattle.vx_replay.specs.Joinable.{CanBeWritten}
 use Rattle.vx_replay.specs.Ticks.{IsAnswerAfter, IsAnswerOfTerms, IsIndexAnswer}
 use Rattle.vx_replay.specs.Stepped.{IsAnswerNext}
-use Rattle.vx_replay.specs.TermSteps.{IsAhead}
+use Rattle.vx_replay.specs.TermSteps.{SettlesAhead}
 use Rattle.vx_replay.proofs.LawfulTicks.{tick_answer_is_lawful}
 
 -- ---- the index's days
@@ -150,11 +150,11 @@ pub some_stands_at : {A : Type 0} (xs : List A) (place : ℕ) (Test : A → Type
 some_stands_at xs place Test h = let s = some_and (slice_get xs place) Test h in record { x = s.0; at = s.1; passes = s.2 }
 
 -- the near term settles after the tick
-pub near_is_ahead : (now : Moment) (xs : List Expiry) (x : Expiry) → IsNearTerm now.day INDEX_DAYS INDEX_WINDOW xs x → IsAhead now x
+pub near_is_ahead : (now : Moment) (xs : List Expiry) (x : Expiry) → IsNearTerm now.day INDEX_DAYS INDEX_WINDOW xs x → SettlesAhead now x
 near_is_ahead now xs x h = let w = h.in_window in let most = w.2 in (w.0, omega (arith, ints, most))
 
 -- and so does the next term
-pub next_is_ahead : (now : Moment) (xs : List Expiry) (x : Expiry) → IsNextTerm now.day INDEX_DAYS INDEX_WINDOW xs x → IsAhead now x
+pub next_is_ahead : (now : Moment) (xs : List Expiry) (x : Expiry) → IsNextTerm now.day INDEX_DAYS INDEX_WINDOW xs x → SettlesAhead now x
 next_is_ahead now xs x h = let w = h.in_window in let least = w.0 in let most = w.1 in (omega (arith, ints, least), omega (arith, ints, most))
 
 -- the two terms stand at two places

@@ -24,7 +24,7 @@ IsRefusedFor refusal (Refused reason which) = tick_reason reason which ≡ Some 
 IsRefusedFor refusal _ = ⊥
 
 -- what is known of a tick of a lawful feed, for 7 to 120 days within a window of at most 35, and its answer
-pub record IsAnswered (days window : ℕ) (events : List Event) (line time : ℕ) (facts : TickFacts) (answer : TickAnswer) : Type 0 where
+pub record IsTickAnswered (days window : ℕ) (events : List Event) (line time : ℕ) (facts : TickFacts) (answer : TickAnswer) : Type 0 where
   pub in_days : AreDaysInRange days
   pub in_window : IsWindowInRange window
   pub lawful : AreLawful events
@@ -34,13 +34,13 @@ pub record IsAnswered (days window : ℕ) (events : List Event) (line time : ℕ
 -- where no refusal holds, and both forwards and the index are clear, a figure is published
 abbrev pub ClearTickIsPublished : Type 0
 ClearTickIsPublished = (days window : ℕ) (events : List Event) (line time : ℕ) (facts : TickFacts) (answer : TickAnswer) →
-    IsAnswered days window events line time facts answer → ((reason : TickReason) → ¬ TickRefuses SCALE facts reason) →
+    IsTickAnswered days window events line time facts answer → ((reason : TickReason) → ¬ TickRefuses SCALE facts reason) →
     HasClearForward facts.near → HasClearForward facts.next → HasClearIndex facts → IsPublished answer
 
 -- where a refusal is the first that holds, and the forwards are clear whose undecided answers come before it, it is answered; for a
 -- negative variance the index is to be clear too
 abbrev pub FirstRefusalIsAnswered : Type 0
 FirstRefusalIsAnswered = (days window : ℕ) (events : List Event) (line time : ℕ) (facts : TickFacts) (answer : TickAnswer) (reason : TickReason) →
-    IsAnswered days window events line time facts answer → FirstRefusal SCALE facts reason →
+    IsTickAnswered days window events line time facts answer → FirstRefusal SCALE facts reason →
     (near_undecided_place < tick_place reason → HasClearForward facts.near) → (next_undecided_place < tick_place reason → HasClearForward facts.next) →
     (reason ≡ negative_variance → HasClearIndex facts) → IsRefusedFor reason answer

@@ -25,8 +25,8 @@ abbrev pub Steps : Replay → Event → Replay → Type 0
 Steps old e new = OfEvents old e (λ events. StandsFor new (events ++ e ∷ []))
 
 -- the new replay stands for the same events
-abbrev pub StandsStill : Replay → Replay → Type 0
-StandsStill old new = (events : List Event) → StandsFor old events → StandsFor new events
+abbrev pub ReplayStandsStill : Replay → Replay → Type 0
+ReplayStandsStill old new = (events : List Event) → StandsFor old events → StandsFor new events
 
 -- there is an expiry at this place in order of declaration, from 0
 abbrev pub HasPlace : Replay → ℕ → Type 0

@@ -16,8 +16,8 @@ use Rattle.vx_term.specs.KeptAfter.{IsSelectedStrip, IsKeptAfter}
 use Rattle.vx_replay.specs.StripsAfter.{Holding}
 
 -- the expiry settles 1 to 181 days ahead
-abbrev pub IsAhead : Moment → Expiry → Type 0
-IsAhead now x = (pos 1 ≤ℤ days_until now.day x.date) × (days_until now.day x.date ≤ℤ pos DAYS_AHEAD_MAX)
+abbrev pub SettlesAhead : Moment → Expiry → Type 0
+SettlesAhead now x = (pos 1 ≤ℤ days_until now.day x.date) × (days_until now.day x.date ≤ℤ pos DAYS_AHEAD_MAX)
 
 -- the book stands for some lawful events, and a strip is kept for each of its expiries
 pub record HasStripsFor (book : Book) (strips : List Holding) : Type 0 where

@@ -2,7 +2,7 @@
 
 ghost use Rattle.std.specs.Prelude.{◌≡◌, ◌≢◌, ℕ, ◌<◌, ◌≤◌, ◌^◌, List, [], ◌∷◌, ◌++◌, Some, None, Ok, IfOk, OnOk, OnErr, slice_get};
 ghost use Rattle.vx_feed.specs.declared.events.Event.{Event};
-ghost use Rattle.vx_replay.specs.StandsFor.{HasPlace, MayStep, OfEvents, StandsFor, StandsStill, Steps as StepsTo};
+ghost use Rattle.vx_replay.specs.StandsFor.{HasPlace, MayStep, OfEvents, StandsFor, ReplayStandsStill, Steps as StepsTo};
 ghost use Rattle.vx_replay.specs.Stepped.{IsAnswerNext, IsStepAnswer};
 ghost use Rattle.vx_replay.specs.StripsAfter.{AreKeptAfter, AreKeptAfterTick};
 
@@ -66,7 +66,7 @@ impl Replay {
     pub fn step(&mut self, e: &Event) -> Result<Option<TickAnswer>, NoMemory>
         requires { MayStep self.old e.now }
         ensures stands { OnOk result (StepsTo self.old e.now self.new) }
-        ensures refused { OnErr result (StandsStill self.old self.new) }
+        ensures refused { OnErr result (ReplayStandsStill self.old self.new) }
         ensures answer { OfEvents self.old e.now (λ events. IfOk result (IsStepAnswer events e.now)) }
         ensures kept { (count : ℕ) × OfEvents self.old e.now (λ events.
             AreKeptAfter events e.now self.old.kept.items self.new.kept.items 0 count result) }
@@ -85,7 +85,7 @@ impl Replay {
         requires parts { blank.parts ≡ L.parts }
         requires shares { 0 < L.parts }
         ensures stands { OnOk result (StepsTo self.old e.now self.new) }
-        ensures refused { OnErr result (StandsStill self.old self.new) }
+        ensures refused { OnErr result (ReplayStandsStill self.old self.new) }
         ensures answer { OfEvents self.old e.now (λ events. IfOk result (IsStepAnswer events e.now)) }
         ensures kept { (count : ℕ) × OfEvents self.old e.now (λ events.
             AreKeptAfter events e.now self.old.kept.items self.new.kept.items 0 count result) }
@@ -109,7 +109,7 @@ impl Replay {
         requires may { MayStep self.old e.now }
         requires count { steps.old ≤ 2 ^ 62 }
         ensures stands { OnOk result (StepsTo self.old e.now self.new) }
-        ensures refused { OnErr result (StandsStill self.old self.new) }
+        ensures refused { OnErr result (ReplayStandsStill self.old self.new) }
         ensures answer { OfEvents self.old e.now (λ events. IfOk result (IsStepAnswer events e.now)) }
         ensures kept { OfEvents self.old e.now (λ events.
             AreKeptAfter events e.now self.old.kept.items self.new.kept.items steps.old steps.new result) }
@@ -139,7 +139,7 @@ impl Replay {
         requires may { MayStep self.old e.now }
         requires no_tick { (time : ℕ) → e.now ≢ Event.Tick time }
         ensures stands { OnOk result (StepsTo self.old e.now self.new) }
-        ensures refused { OnErr result (StandsStill self.old self.new) }
+        ensures refused { OnErr result (ReplayStandsStill self.old self.new) }
         ensures kept { OnOk result ((events : List Event) (count : ℕ)
             → AreKeptAfter events e.now self.old.kept.items self.new.kept.items count count (Ok None)) }
         ensures same { OnErr result (self.new.kept.items ≡ self.old.kept.items) }
@@ -161,7 +161,7 @@ impl Replay {
         requires may { MayStep self.old (Event.Tick time) }
         requires count { steps.old ≤ 2 ^ 62 }
         ensures stands { OnOk result (StepsTo self.old (Event.Tick time) self.new) }
-        ensures refused { OnErr result (StandsStill self.old self.new) }
+        ensures refused { OnErr result (ReplayStandsStill self.old self.new) }
         ensures answer { OfEvents self.old (Event.Tick time) (λ events. IfOk result (IsAnswerNext events time)) }
         ensures kept { OfEvents self.old (Event.Tick time) (λ events.
             AreKeptAfterTick events time self.old.kept.items self.new.kept.items steps.old steps.new result) }
@@ -176,7 +176,7 @@ impl Replay {
     fn declare(&mut self, expiry: Expiry) -> Result<(), NoMemory>
         requires { MayStep self.old (Event.Expiry expiry) }
         ensures stands { OnOk result (StepsTo self.old (Event.Expiry expiry) self.new) }
-        ensures refused { OnErr result (StandsStill self.old self.new) }
+        ensures refused { OnErr result (ReplayStandsStill self.old self.new) }
         ensures one_more { OnOk result (self.new.kept.items ≡ self.old.kept.items ++ None ∷ []) }
         ensures same { OnErr result (self.new.kept.items ≡ self.old.kept.items) }
     {

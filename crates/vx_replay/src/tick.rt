@@ -13,7 +13,7 @@ ghost use Rattle.vx_claims.specs.Seen.{moment_of, term_facts};
 ghost use Rattle.vx_book.specs.StandsFor.{StandsFor};
 ghost use Rattle.vx_replay.specs.Joinable.{CanBeWritten};
 ghost use Rattle.vx_replay.specs.StripsAfter.{AreKeptAfterTick};
-ghost use Rattle.vx_replay.specs.TermSteps.{HasStripsFor, IsAhead, IsTermKept};
+ghost use Rattle.vx_replay.specs.TermSteps.{HasStripsFor, SettlesAhead, IsTermKept};
 ghost use Rattle.vx_replay.specs.Ticks.{IsAnswerAfter, IsAnswerFor, IsAnswerOfTerms};
 
 use crate::answer::{Reason, TickAnswer, Which};
@@ -113,7 +113,7 @@ fn answer_term<L: Ledger>(
 ) -> Result<TermAnswer<SCALE>, NoMemory>
     requires strips { HasStripsFor book.now kept.old }
     requires within { place < length book.now.expiries.items }
-    requires ahead { (x : Expiry) → slice_get book.now.expiries.items place ≡ Some x → IsAhead now x }
+    requires ahead { (x : Expiry) → slice_get book.now.expiries.items place ≡ Some x → SettlesAhead now x }
     requires minute { now.minute ≤ MINUTE_MAX }
     requires count { steps.old ≤ 2 ^ 63 }
     ensures answer { (events : List Event) (x : Expiry) → StandsFor book.now events

@@ -21,13 +21,13 @@ use Rattle.vx_accepted.specs.Clear.{HasClearForward, HasClearOpeningIndex}
 use Rattle.vx_accepted.proofs.ClearTerms.{clear_forward_is_decided, exponent_of_facts_is_small}
 use Rattle.vx_soq.specs.declared.answer.OpeningAnswer.{OpeningAnswer}
 use Rattle.vx_soq.specs.declared.answer.OpeningAnswer.TheVariants.{Published, Refused, UndecidedForward, UndecidedCents}
-use Rattle.vx_soq.specs.Figures.{IsJoined}
+use Rattle.vx_soq.specs.Figures.{IsAnswerByTerm}
 use Rattle.vx_soq.specs.Openings.{IsAnswerOfTerm}
 use Rattle.vx_soq.specs.Complete.{ClearOpeningIsPublished, FirstOpeningRefusalIsAnswered}
 use Rattle.vx_soq.proofs.LawfulOpenings.{facts_lawful, term_is, declared_from, opening_answer_is_lawful}
 
 -- a decided term leaves no undecided forward
-term_is_decided : (line time strike : ℕ) (lo hi : ℤ) (a : TermAnswer SCALE) → IsForwardDecided SCALE a → IsJoined line time a (UndecidedForward strike lo hi) → ⊥
+term_is_decided : (line time strike : ℕ) (lo hi : ℤ) (a : TermAnswer SCALE) → IsForwardDecided SCALE a → IsAnswerByTerm line time a (UndecidedForward strike lo hi) → ⊥
 term_is_decided line time strike lo hi (term.Run run) decided joined = joined
 term_is_decided line time strike lo hi (term.Refused refusal) decided joined = cc
 term_is_decided line time strike lo hi (term.UndecidedForward s l h) decided joined = decided

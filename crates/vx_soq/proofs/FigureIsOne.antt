@@ -16,7 +16,7 @@ use Rattle.vx_soq.specs.declared.answer.Figure.{Figure}
 use Rattle.vx_soq.specs.declared.answer.OpeningAnswer.{OpeningAnswer}
 use Rattle.vx_soq.specs.declared.answer.OpeningAnswer.TheVariants.{Published, Refused, UndecidedForward, UndecidedCents}
 use Rattle.vx_soq.specs.declared.answer.SoqReason.TheVariants.{NoOpening, NoTerm, Term, NegativeVariance}
-use Rattle.vx_soq.specs.Figures.{opening_certificate, IsFigureAnswer}
+use Rattle.vx_soq.specs.Figures.{opening_certificate, IsOpeningFigure}
 
 -- the square of a run has its ends in order
 pub square_is_in_order : (x : Expiry) (facts : TermFacts) (run : TermRun SCALE) → IsRun SCALE x facts run → AreInOrder (single_ends run.w)
@@ -37,7 +37,7 @@ module _ (line time : ℕ) (run : TermRun SCALE) where
   abbrev with_certificate : Figure → Certificate → Figure
   with_certificate figure c = record { cents = figure.cents; lo = figure.lo; hi = figure.hi; certificate = c }
 
-  from_decision : (a : OpeningAnswer) → IsFigureAnswer line time run a → IsFromDecision (single_ends run.w) answer_to a
+  from_decision : (a : OpeningAnswer) → IsOpeningFigure line time run a → IsFromDecision (single_ends run.w) answer_to a
   unfolding answer_to
   from_decision (Published figure) (ends, decides, e) = record {
     lo = figure.lo;
@@ -66,5 +66,5 @@ module _ (line time : ℕ) (run : TermRun SCALE) where
   from_decision (Refused (Term refusal)) h = elim h [ ]
 
   -- the answer of the run is one
-  pub figure_is_one : (a b : OpeningAnswer) → AreInOrder (single_ends run.w) → IsFigureAnswer line time run a → IsFigureAnswer line time run b → a ≡ b
+  pub figure_is_one : (a b : OpeningAnswer) → AreInOrder (single_ends run.w) → IsOpeningFigure line time run a → IsOpeningFigure line time run b → a ≡ b
   figure_is_one a b ordered h k = decided_answer_is_one (single_ends run.w) answer_to a b ordered (from_decision a h) (from_decision b k)

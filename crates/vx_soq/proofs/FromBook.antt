@@ -28,11 +28,11 @@ use Rattle.vx_claims.specs.declared.limits.TheConstants.{SCALE}
 use Rattle.vx_claims.specs.Seen.{opening_expiry, opening_term_facts, opening_term_of, opening_facts}
 use Rattle.vx_term.specs.declared.answer.TermAnswer.{TermAnswer}
 use Rattle.vx_term.specs.declared.answer.TermAnswer.TheVariants as term
-use Rattle.vx_term.specs.Answer.{IsTermAnswer, facts_of}
+use Rattle.vx_term.specs.Answer.{IsTermAnswer, facts_of_view}
 use Rattle.vx_soq.specs.declared.answer.OpeningAnswer.{OpeningAnswer}
 use Rattle.vx_soq.specs.declared.answer.OpeningAnswer.TheVariants.{Published, Refused, UndecidedForward, UndecidedCents}
 use Rattle.vx_soq.specs.declared.answer.SoqReason.TheVariants.{NoOpening, NoTerm, Term, NegativeVariance}
-use Rattle.vx_soq.specs.Figures.{IsJoined}
+use Rattle.vx_soq.specs.Figures.{IsAnswerByTerm}
 use Rattle.vx_soq.specs.Openings.{IsAnswerOfTerm, IsOpeningAnswer}
 use Rattle.vx_soq.specs.TermPlace.{FindsTerm, IsTermPlace}
 
@@ -152,13 +152,13 @@ of_term events (Refused (Term reason)) h = h
 of_term events (Refused NegativeVariance) h = h
 of_term events (Refused NoOpening) h = absurd (never (opening_line events) h.time h.term_answer h.joined)
   where
-    never : (line time : ℕ) (a : TermAnswer SCALE) → IsJoined line time a (Refused NoOpening) → ⊥
+    never : (line time : ℕ) (a : TermAnswer SCALE) → IsAnswerByTerm line time a (Refused NoOpening) → ⊥
     never line time (term.Run run) h = h
     never line time (term.Refused refusal) h = absurd cc
     never line time (term.UndecidedForward strike lo hi) h = absurd cc
 of_term events (Refused NoTerm) h = absurd (never (opening_line events) h.time h.term_answer h.joined)
   where
-    never : (line time : ℕ) (a : TermAnswer SCALE) → IsJoined line time a (Refused NoTerm) → ⊥
+    never : (line time : ℕ) (a : TermAnswer SCALE) → IsAnswerByTerm line time a (Refused NoTerm) → ⊥
     never line time (term.Run run) h = h
     never line time (term.Refused refusal) h = absurd cc
     never line time (term.UndecidedForward strike lo hi) h = absurd cc
@@ -166,18 +166,18 @@ of_term events (Refused NoTerm) h = absurd (never (opening_line events) h.time h
 -- the answer from the term that the book shows at the place of the opening's term
 pub answered : (events : List Event) (opened : Opened) (place : ℕ) (view : TermView) (said : TermAnswer SCALE) (answer : OpeningAnswer)
     → opened_at events ≡ Some opened → IsTermPlace events place → slice_get (declared_expiries events) place ≡ Some view.expiry
-    → IsTermAtOpening events view → IsTermAnswer SCALE view.expiry (facts_of view THIRTY_DAYS) said
-    → IsJoined opened.line opened.time said answer → IsOpeningAnswer events answer
+    → IsTermAtOpening events view → IsTermAnswer SCALE view.expiry (facts_of_view view THIRTY_DAYS) said
+    → IsAnswerByTerm opened.line opened.time said answer → IsOpeningAnswer events answer
 answered events opened place view said answer is_opened at here shows says joined =
     let when = opened_parts events opened is_opened in
     let day = at.day in
     let same : view.expiry ≡ opening_expiry day = same_Some view.expiry (opening_expiry day) (sym here ∙ at.stands) in
     let rows : view.rows.now ≡ opening_rows (opening_expiry day) events = shows.rows ∙ ap (λ (x : Expiry). opening_rows x events) same in
     let rate : view.rate ≡ opening_rate (opening_expiry day) events = shows.rate ∙ ap (λ (x : Expiry). opening_rate x events) same in
-    let facts : facts_of view THIRTY_DAYS ≡ opening_term_facts events day =
+    let facts : facts_of_view view THIRTY_DAYS ≡ opening_term_facts events day =
     ap (λ (r : List StrikeRow). known_of r view.rate) rows ∙ ap (known_of (opening_rows (opening_expiry day) events)) rate in
-    let of_expiry : IsTermAnswer SCALE (opening_expiry day) (facts_of view THIRTY_DAYS) said =
-    subst (λ (x : Expiry). IsTermAnswer SCALE x (facts_of view THIRTY_DAYS) said) same says in
+    let of_expiry : IsTermAnswer SCALE (opening_expiry day) (facts_of_view view THIRTY_DAYS) said =
+    subst (λ (x : Expiry). IsTermAnswer SCALE x (facts_of_view view THIRTY_DAYS) said) same says in
     of_term events answer (record {
       day = day;
       time = opened.time;
@@ -187,5 +187,5 @@ answered events opened place view said answer is_opened at here shows says joine
           cond-true (is_declared (opening_expiry day) (before_opening events)) (Some (opening_term_facts events day)) None at.declared;
       term_answer = said;
       is_term_answer = subst (λ (f : TermFacts). IsTermAnswer SCALE (opening_expiry day) f said) facts of_expiry;
-      joined = subst (λ (line : ℕ). IsJoined line opened.time said answer) when.line_is joined;
+      joined = subst (λ (line : ℕ). IsAnswerByTerm line opened.time said answer) when.line_is joined;
     })

@@ -54,7 +54,7 @@ use Rattle.vx_accepted.proofs.IndexEnds.{member_is_between, member_is_negative, 
 use Rattle.vx_soq.specs.declared.answer.OpeningAnswer.{OpeningAnswer}
 use Rattle.vx_soq.specs.declared.answer.OpeningAnswer.TheVariants.{Published, Refused, UndecidedForward, UndecidedCents}
 use Rattle.vx_soq.specs.declared.answer.SoqReason.TheVariants.{NoOpening, NoTerm, Term, NegativeVariance}
-use Rattle.vx_soq.specs.Figures.{opening_certificate, IsFigureAnswer, IsJoined}
+use Rattle.vx_soq.specs.Figures.{opening_certificate, IsOpeningFigure, IsAnswerByTerm}
 use Rattle.vx_soq.specs.Openings.{HasNoTerm, IsAnswerOfTerm}
 use Rattle.vx_soq.specs.Lawful.{IsLawfulOpening, OpeningAnswerIsLawful}
 
@@ -236,7 +236,7 @@ module _ (events : List Event) (day : DayNo) (time : ℕ) (lawful : AreLawful ev
               accepted = accepted;
             }
 
-      of_figure : (answer : OpeningAnswer) → IsFigureAnswer (opening_line events) time a answer → IsLawfulOpening events answer
+      of_figure : (answer : OpeningAnswer) → IsOpeningFigure (opening_line events) time a answer → IsLawfulOpening events answer
       of_figure (Published figure) (ends, decides, is) =
           (time, subst (PublishesOpening events (opening_line events) time figure.cents figure.lo figure.hi) (sym is) (published figure.lo figure.hi figure.cents ends decides))
       of_figure (UndecidedCents lo hi) (ends, decides) = straddling lo hi ends decides
@@ -246,7 +246,7 @@ module _ (events : List Event) (day : DayNo) (time : ℕ) (lawful : AreLawful ev
       of_figure (Refused NoTerm) h = absurd h
       of_figure (Refused (Term reason)) h = absurd h
 
-    joined : (a : TermAnswer SCALE) → IsTermAnswer SCALE (opening_expiry day) facts a → (answer : OpeningAnswer) → IsJoined (opening_line events) time a answer → IsLawfulOpening events answer
+    joined : (a : TermAnswer SCALE) → IsTermAnswer SCALE (opening_expiry day) facts a → (answer : OpeningAnswer) → IsAnswerByTerm (opening_line events) time a answer → IsLawfulOpening events answer
     joined (term.Run a) h answer is = of_figure a h answer is
     joined (term.Refused reason) h answer is =
         subst (IsLawfulOpening events) (sym is) (refusal (reason_of reason) (term_answer_means SCALE (opening_expiry day) facts facts_lawful (term.Refused reason) h))

@@ -21,12 +21,12 @@ use Rattle.vx_term.proofs.TermAnswerIsOne.{term_answer_is_one}
 use Rattle.vx_soq.specs.declared.answer.OpeningAnswer.{OpeningAnswer}
 use Rattle.vx_soq.specs.declared.answer.OpeningAnswer.TheVariants.{Published, Refused, UndecidedForward, UndecidedCents}
 use Rattle.vx_soq.specs.declared.answer.SoqReason.TheVariants.{NoOpening, NoTerm, Term, NegativeVariance}
-use Rattle.vx_soq.specs.Figures.{IsJoined}
+use Rattle.vx_soq.specs.Figures.{IsAnswerByTerm}
 use Rattle.vx_soq.specs.Openings.{IsTaken, HasNoTerm, IsAnswerOfTerm, IsOpeningAnswer}
 use Rattle.vx_soq.proofs.FigureIsOne.{square_is_in_order, figure_is_one}
 
 joined_opening_is_one : (line time : ℕ) (x : Expiry) (facts : TermFacts) (answer : TermAnswer SCALE) (a b : OpeningAnswer)
-    → IsTermAnswer SCALE x facts answer → IsJoined line time answer a → IsJoined line time answer b → a ≡ b
+    → IsTermAnswer SCALE x facts answer → IsAnswerByTerm line time answer a → IsAnswerByTerm line time answer b → a ≡ b
 joined_opening_is_one line time x facts (term.Run run) a b h p q = figure_is_one line time run a b (square_is_in_order x facts run h) p q
 joined_opening_is_one line time x facts (term.Refused refusal) a b h p q = p ∙ sym q
 joined_opening_is_one line time x facts (term.UndecidedForward strike lo hi) a b h p q = p ∙ sym q
@@ -56,8 +56,8 @@ module _ (events : List Event) where
       subst (λ (f : TermFacts). IsTermAnswer SCALE (opening_expiry k.day) f h.term_answer) facts answer_at in
       let answers : h.term_answer ≡ k.term_answer =
       term_answer_is_one SCALE (opening_expiry k.day) k.facts h.term_answer k.term_answer (opening_rows_rise events k.day k.facts k.facts_are) answer_of k.is_term_answer in
-      let one : IsJoined (opening_line events) k.time h.term_answer a = subst (λ (t : ℕ). IsJoined (opening_line events) t h.term_answer a) times h.joined in
-      let two : IsJoined (opening_line events) k.time k.term_answer a = subst (λ (t : TermAnswer SCALE). IsJoined (opening_line events) k.time t a) answers one in
+      let one : IsAnswerByTerm (opening_line events) k.time h.term_answer a = subst (λ (t : ℕ). IsAnswerByTerm (opening_line events) t h.term_answer a) times h.joined in
+      let two : IsAnswerByTerm (opening_line events) k.time k.term_answer a = subst (λ (t : TermAnswer SCALE). IsAnswerByTerm (opening_line events) k.time t a) answers one in
       joined_opening_is_one (opening_line events) k.time (opening_expiry k.day) k.facts k.term_answer a b k.is_term_answer two k.joined
 
   abbrev Steps : OpeningAnswer → Type 0

@@ -20,7 +20,7 @@ use Rattle.vx_claims.specs.Seen.{opening_expiry, opening_term_of, opening_facts}
 use Rattle.vx_soq.specs.declared.answer.OpeningAnswer.{OpeningAnswer}
 use Rattle.vx_soq.specs.declared.answer.OpeningAnswer.TheVariants.{Published, Refused, UndecidedForward, UndecidedCents}
 use Rattle.vx_soq.specs.declared.answer.SoqReason.TheVariants.{NoOpening, NoTerm, Term, NegativeVariance}
-use Rattle.vx_soq.specs.Figures.{IsJoined}
+use Rattle.vx_soq.specs.Figures.{IsAnswerByTerm}
 use Rattle.vx_soq.specs.Openings.{HasNoTerm, IsAnswerOfTerm}
 use Rattle.vx_soq.specs.Laws.{OpeningAnswerStays}
 
@@ -118,7 +118,7 @@ module _ (events more : List Event) (lawful : AreLawful (events ++ more)) (taken
     facts_are = term_same h.day ∙ h.facts_are;
     term_answer = h.term_answer;
     is_term_answer = h.is_term_answer;
-    joined = subst (λ (line : ℕ). IsJoined line h.time h.term_answer answer) line_same h.joined;
+    joined = subst (λ (line : ℕ). IsAnswerByTerm line h.time h.term_answer answer) line_same h.joined;
   }
 
 -- the answer stays

@@ -29,7 +29,7 @@ use Rattle.vx_accepted.proofs.Statable.{figure_is_statable, run_is_statable}
 use Rattle.vx_soq.specs.declared.answer.Figure.{Figure}
 use Rattle.vx_soq.specs.declared.answer.OpeningAnswer.TheVariants.{Published, Refused, UndecidedForward, UndecidedCents}
 use Rattle.vx_soq.specs.declared.answer.SoqReason.TheVariants.{NoOpening, NoTerm, Term, NegativeVariance}
-use Rattle.vx_soq.specs.Figures.{IsJoined}
+use Rattle.vx_soq.specs.Figures.{IsAnswerByTerm}
 use Rattle.vx_soq.specs.Openings.{IsTaken}
 use Rattle.vx_soq.specs.Written.{OpeningCanBeWritten}
 use Rattle.vx_soq.proofs.LawfulOpenings.{declared_from, facts_lawful, square_in_range, square_ordered}
@@ -87,7 +87,7 @@ module _ (events : List Event) (day : DayNo) (time : ℕ) (lawful : AreLawful ev
   fine = (omega arith, omega arith)
 
   of_term : (a : TermAnswer SCALE) → IsTermAnswer SCALE (opening_expiry day) (opening_term_facts events day) a → (figure : Figure)
-      → IsJoined (opening_line events) time a (Published figure) → IsCertificateInRange figure.certificate
+      → IsAnswerByTerm (opening_line events) time a (Published figure) → IsCertificateInRange figure.certificate
   of_term (term.Run run) is figure (ends, decides, stated) =
       let room = few in
       let ordered = square_ordered events day time lawful taken.day_is taken.time_is declared run is in

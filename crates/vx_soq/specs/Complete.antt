@@ -13,27 +13,27 @@ use Rattle.vx_soq.specs.Openings.{IsOpeningAnswer}
 use Rattle.vx_soq.specs.Lawful.{opening_reason}
 
 -- the answer is a figure
-abbrev pub IsPublished : OpeningAnswer → Type 0
-IsPublished (Published figure) = Unit {0}
-IsPublished _ = ⊥
+abbrev pub IsOpeningPublished : OpeningAnswer → Type 0
+IsOpeningPublished (Published figure) = Unit {0}
+IsOpeningPublished _ = ⊥
 
 -- the answer is this refusal
-abbrev pub IsRefusedFor : OpeningReason → OpeningAnswer → Type 0
-IsRefusedFor refusal (Refused reason) = opening_reason reason ≡ refusal
-IsRefusedFor refusal _ = ⊥
+abbrev pub IsOpeningRefusedFor : OpeningReason → OpeningAnswer → Type 0
+IsOpeningRefusedFor refusal (Refused reason) = opening_reason reason ≡ refusal
+IsOpeningRefusedFor refusal _ = ⊥
 
 -- where no refusal holds, and the forward and the index are clear, it is a figure
 abbrev pub PublishesWhereClear : List Event → OpeningAnswer → Type 0
 PublishesWhereClear events answer =
     ((reason : OpeningReason) → ¬ OpeningRefuses SCALE (opening_facts events) reason) →
-    HasClearForward (opening_facts events).term → HasClearOpeningIndex (opening_facts events) → IsPublished answer
+    HasClearForward (opening_facts events).term → HasClearOpeningIndex (opening_facts events) → IsOpeningPublished answer
 
 -- where a refusal is the first that holds, and the forward is clear if its undecided answer comes before it, it is that
 -- refusal; for a negative variance the index is to be clear too
 abbrev pub RefusesWhereClear : List Event → OpeningAnswer → Type 0
 RefusesWhereClear events answer = (reason : OpeningReason) → RefusesOpening events reason →
     (opening_undecided_place < opening_place reason → HasClearForward (opening_facts events).term) →
-    (reason ≡ negative_opening → HasClearOpeningIndex (opening_facts events)) → IsRefusedFor reason answer
+    (reason ≡ negative_opening → HasClearOpeningIndex (opening_facts events)) → IsOpeningRefusedFor reason answer
 
 -- the answer to the opening of lawful events is so
 abbrev pub ClearOpeningIsPublished : Type 0

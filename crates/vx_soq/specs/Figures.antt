@@ -31,18 +31,18 @@ opening_certificate line time run low high cents =
     certificate_of_run line time run (certified_figure (single_ends run.w) low high cents)
 
 -- the answer of a run, for the opening at a line and a minute of the day
-abbrev pub IsFigureAnswer : ℕ → ℕ → TermRun SCALE → OpeningAnswer → Type 0
-IsFigureAnswer line time run (Published figure) =
+abbrev pub IsOpeningFigure : ℕ → ℕ → TermRun SCALE → OpeningAnswer → Type 0
+IsOpeningFigure line time run (Published figure) =
     AreIndexEnds SCALE (single_ends run.w) figure.lo figure.hi × Decides figure.lo figure.hi (decision.Cents figure.cents)
     × (figure.certificate ≡ opening_certificate line time run figure.lo figure.hi figure.cents)
-IsFigureAnswer line time run (UndecidedCents lo hi) =
+IsOpeningFigure line time run (UndecidedCents lo hi) =
     AreIndexEnds SCALE (single_ends run.w) lo hi × Decides lo hi decision.Straddle
-IsFigureAnswer line time run (Refused NegativeVariance) =
+IsOpeningFigure line time run (Refused NegativeVariance) =
     (lo hi : ℤ) × AreIndexEnds SCALE (single_ends run.w) lo hi × Decides lo hi decision.Negative
-IsFigureAnswer line time run _ = ⊥
+IsOpeningFigure line time run _ = ⊥
 
 -- by the answer for the opening's term
-abbrev pub IsJoined : ℕ → ℕ → TermAnswer SCALE → OpeningAnswer → Type 0
-IsJoined line time (term.Run run) answer = IsFigureAnswer line time run answer
-IsJoined line time (term.Refused refusal) answer = answer ≡ Refused (Term refusal)
-IsJoined line time (term.UndecidedForward strike lo hi) answer = answer ≡ UndecidedForward strike lo hi
+abbrev pub IsAnswerByTerm : ℕ → ℕ → TermAnswer SCALE → OpeningAnswer → Type 0
+IsAnswerByTerm line time (term.Run run) answer = IsOpeningFigure line time run answer
+IsAnswerByTerm line time (term.Refused refusal) answer = answer ≡ Refused (Term refusal)
+IsAnswerByTerm line time (term.UndecidedForward strike lo hi) answer = answer ≡ UndecidedForward strike lo hi

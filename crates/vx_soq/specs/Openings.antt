@@ -13,7 +13,7 @@ use Rattle.vx_term.specs.Answer.{IsTermAnswer}
 use Rattle.vx_soq.specs.declared.answer.OpeningAnswer.{OpeningAnswer}
 use Rattle.vx_soq.specs.declared.answer.OpeningAnswer.TheVariants.{Refused}
 use Rattle.vx_soq.specs.declared.answer.SoqReason.TheVariants.{NoOpening, NoTerm}
-use Rattle.vx_soq.specs.Figures.{IsJoined}
+use Rattle.vx_soq.specs.Figures.{IsAnswerByTerm}
 
 -- the opening was taken, on this day and at this minute
 pub record IsTaken (events : List Event) (day : DayNo) (time : ℕ) : Type 0 where
@@ -34,7 +34,7 @@ pub record IsAnswerOfTerm (events : List Event) (answer : OpeningAnswer) : Type 
   pub facts_are : opening_term_of events day ≡ Some facts
   pub term_answer : TermAnswer SCALE
   pub is_term_answer : IsTermAnswer SCALE (opening_expiry day) facts term_answer
-  pub joined : IsJoined (opening_line events) time term_answer answer
+  pub joined : IsAnswerByTerm (opening_line events) time term_answer answer
 
 -- the answer to the opening of a feed
 abbrev pub IsOpeningAnswer : List Event → OpeningAnswer → Type 0

@@ -11,7 +11,7 @@ ghost use Rattle.vx_book.specs.StandsFor.{StandsFor, StandsForSome};
 ghost use Rattle.vx_term.specs.Answer.{OnRun};
 ghost use Rattle.vx_term.specs.Steps.{IsRunInRange};
 ghost use Rattle.vx_soq.specs.Complete.{PublishesWhereClear, RefusesWhereClear};
-ghost use Rattle.vx_soq.specs.Figures.{IsFigureAnswer, IsJoined, certificate_of_run};
+ghost use Rattle.vx_soq.specs.Figures.{IsOpeningFigure, IsAnswerByTerm, certificate_of_run};
 ghost use Rattle.vx_soq.specs.Lawful.{IsLawfulOpening};
 ghost use Rattle.vx_soq.specs.Openings.{IsOpeningAnswer};
 ghost use Rattle.vx_soq.specs.TermPlace.{FindsTerm};
@@ -105,7 +105,7 @@ fn answer_of_term(
     answer: &TermAnswer<SCALE>,
 ) -> Result<OpeningAnswer, NoMemory>
     requires { OnRun SCALE (IsRunInRange SCALE) answer.now }
-    ensures { IfOk result (IsJoined opened.line opened.time answer.now) }
+    ensures { IfOk result (IsAnswerByTerm opened.line opened.time answer.now) }
 {
     match answer {
         TermAnswer::Run(run) => answer_of_run(alloc, opened, run),
@@ -125,7 +125,7 @@ fn answer_of_run(
     run: &TermRun<SCALE>,
 ) -> Result<OpeningAnswer, NoMemory>
     requires { IsRunInRange SCALE run.now }
-    ensures { IfOk result (IsFigureAnswer opened.line opened.time run.now) }
+    ensures { IfOk result (IsOpeningFigure opened.line opened.time run.now) }
 {
     let square = single(&run.w);
     let index = decide_index(&square);

@@ -30,7 +30,7 @@ use Rattle.vx_sum.proofs.Enclosure.{total_encloses}
 use Rattle.vx_term.specs.declared.answer.TermRefusal.{TermRefusal}
 use Rattle.vx_term.specs.declared.answer.TermRefusal.TheVariants.{NoRate, NoPair, NoStrikeBelow, NoStrikeAbove, NoMoney, NoPut, NoCall, StripTooLarge}
 use Rattle.vx_term.specs.declared.answer.TermRun.{TermRun}
-use Rattle.vx_term.specs.Runs.{ForwardSays, Says, TellsLevel, RefusesRows, IsRunOfRows}
+use Rattle.vx_term.specs.Runs.{ForwardSays, SaysOfLevel, TellsLevel, RefusesRows, IsRunOfRows}
 use Rattle.vx_term.specs.Meaning.{term_of_run}
 use Rattle.vx_term.specs.Holds.{RunHolds, AtOneLevel, RefusalHolds, UndecidedHolds}
 use Rattle.vx_term.proofs.Variances.{excess_encloses, variance_encloses}
@@ -95,7 +95,7 @@ module _ (P : ℕ) (rows : List StrikeRow) (e : Ends) where
 
   -- ---- an undecided forward
 
-  pub undecided_holds : (strike : ℕ) (lo hi : ℤ) → Says P rows e (level.Straddle strike lo hi) → UndecidedHolds rows (IsMember P e) strike lo hi
+  pub undecided_holds : (strike : ℕ) (lo hi : ℤ) → SaysOfLevel P rows e (level.Straddle strike lo hi) → UndecidedHolds rows (IsMember P e) strike lo hi
   undecided_holds strike lo hi (f, has, (lowest, low, high)) =
       let at_ends = printed_forward P f in
       record {

@@ -25,12 +25,12 @@ use Rattle.vx_term.specs.declared.answer.TermRefusal.TheVariants.{NoRate, NoPair
 use Rattle.vx_term.specs.declared.answer.TermRun.{TermRun}
 use Rattle.vx_term.specs.declared.answer.TermAnswer.{TermAnswer}
 use Rattle.vx_term.specs.declared.answer.TermAnswer.TheVariants.{Run, Refused, UndecidedForward}
-use Rattle.vx_term.specs.Runs.{HasForward, ForwardSays, Says, TellsLevel, IsStripTooLarge}
+use Rattle.vx_term.specs.Runs.{HasForward, ForwardSays, SaysOfLevel, TellsLevel, IsStripTooLarge}
 use Rattle.vx_term.specs.Answer.{exponential_ends, AtStandingRate, IsRun, IsTermAnswer}
 use Rattle.vx_term.proofs.RunIsOne.{run_is_one}
 
 -- what is said of the level is one
-says_is_one : (P : ℕ) (rows : List StrikeRow) (e : Ends) (a b : K0Answer) → StrikesRise rows → Says P rows e a → Says P rows e b → a ≡ b
+says_is_one : (P : ℕ) (rows : List StrikeRow) (e : Ends) (a b : K0Answer) → StrikesRise rows → SaysOfLevel P rows e a → SaysOfLevel P rows e b → a ≡ b
 says_is_one P rows e a b rise (f, h, s) (g, k, t) =
     let pairs : h.pair ≡ k.pair = closest_pair_is_one rows h.pair k.pair rise h.is_closest k.is_closest in
     let forwards : f ≡ g = h.forward_is ∙ ap (λ (p : Pair). forward_interval P p e) pairs ∙ sym k.forward_is in
@@ -71,7 +71,7 @@ module _ (P : ℕ) (x : Expiry) (facts : TermFacts) where
   -- what is answered at a rate
   abbrev AtRate : ℤ → TermAnswer P → Type 0
   AtRate rate a =
-      ((live_pairs facts.rows ≡ []) × (a ≡ Refused NoPair)) ⊎ ((said : K0Answer) × Says P facts.rows (ends_at rate) said × Follows said a)
+      ((live_pairs facts.rows ≡ []) × (a ≡ Refused NoPair)) ⊎ ((said : K0Answer) × SaysOfLevel P facts.rows (ends_at rate) said × Follows said a)
 
   abbrev Steps : TermAnswer P → Type 0
   Steps a = ((facts.rate ≡ None) × (a ≡ Refused NoRate)) ⊎ ((rate : ℤ) × (facts.rate ≡ Some rate) × AtRate rate a)
@@ -111,7 +111,7 @@ module _ (P : ℕ) (x : Expiry) (facts : TermFacts) where
       let n = h.numbers_are in
       let value : run.exp.value ≡ ends_at run.rate = (h.exp_is).value ∙ ap (λ (m : ℕ). exponential_ends P run.rate m) h.minutes_are in
       let has : HasForward P facts.rows run.exp.value run.f = record { pair = formula_pair run.pair; is_closest = n.pair_is; forward_is = n.forward_is } in
-      let says : Says P facts.rows (ends_at run.rate) (level.At n.place) =
+      let says : SaysOfLevel P facts.rows (ends_at run.rate) (level.At n.place) =
       (run.f, subst (λ (e : Ends). HasForward P facts.rows e run.f) value has, n.tells) in
       let strip_is : entries_of run.strip ≡ strip facts.rows run.k0 = n.strip_is in
       let small : upper_total P (strip facts.rows run.k0) ≤ STRIP_TOTAL_MAX * 2 ^ P =
@@ -154,7 +154,7 @@ module _ (P : ℕ) (x : Expiry) (facts : TermFacts) where
     follows_one (level.NoStrikeAbove place) h k = h ∙ sym k
     follows_one (level.Straddle strike lo hi) h k = h ∙ sym k
 
-    no_pair_says : (e : Ends) (said : K0Answer) → live_pairs facts.rows ≡ [] → Says P facts.rows e said → ⊥
+    no_pair_says : (e : Ends) (said : K0Answer) → live_pairs facts.rows ≡ [] → SaysOfLevel P facts.rows e said → ⊥
     no_pair_says e said none (f, h, s) =
         elim (in_from_contains [] h.pair (subst (λ (pairs : List Pair). Contains pairs h.pair) none (h.is_closest).among)) [ ]
 

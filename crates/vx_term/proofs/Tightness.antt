@@ -7,7 +7,7 @@ use Rattle.vx_symbol.specs.declared.rows.StrikeRow.{StrikeRow}
 use Rattle.vx_symbol.specs.Rows.{AreLawfulRows}
 use Rattle.vx_interval.specs.Ends.{Ends, unit, width, exact_ends, sub_ends}
 use Rattle.vx_interval.proofs.EndsLemmas.{same_ends}
-use Rattle.vx_bounds.specs.Exponential.{low_term, high_term, low_sum, high_sum, low_end, high_end, exp_ends, signed_ends}
+use Rattle.vx_bounds.specs.Exponential.{low_term, high_term, low_sum_to, high_sum_to, low_end, high_end, exp_ends, signed_ends}
 use Rattle.vx_bounds.proofs.TermLemmas.{ceil_below}
 use Rattle.vx_formula.specs.declared.limits.TheConstants.{FORWARD_WIDTH_MAX}
 use Rattle.vx_formula.specs.Pair.{Pair, IsClosestPair}
@@ -25,7 +25,7 @@ use Rattle.vx_sum.proofs.RowByRow.{totals_ordered}
 use Rattle.vx_sum.proofs.Enclosure.{total_narrow}
 use Rattle.vx_term.specs.declared.answer.TermRun.{TermRun}
 use Rattle.vx_term.specs.Ranges.{IsVarianceNarrow}
-use Rattle.vx_term.specs.Runs.{Says, IsRunOfRows}
+use Rattle.vx_term.specs.Runs.{SaysOfLevel, IsRunOfRows}
 use Rattle.vx_term.specs.Steps.{IsUpTo, IsExponentialInRange}
 use Rattle.vx_term.specs.Variance.{excess_ends, variance_ends}
 use Rattle.vx_term.specs.Tight.{IsExponentialTight}
@@ -106,14 +106,14 @@ module _ (P : ℕ) (rows : List StrikeRow) (e : Ends) (run : TermRun P) (lawful 
 -- ---- the ends of an undecided forward
 
 pub undecided_is_near : (P : ℕ) (rows : List StrikeRow) (e : Ends) (strike : ℕ) (lo hi : ℤ) → AreLawfulRows rows → e.lo ≤ℤ e.hi → IsExponentialTight P e
-    → Says P rows e (level.Straddle strike lo hi) → 60 ≤ P → hi ≤ℤ (lo +ℤ pos FORWARD_WIDTH_MAX)
+    → SaysOfLevel P rows e (level.Straddle strike lo hi) → 60 ≤ P → hi ≤ℤ (lo +ℤ pos FORWARD_WIDTH_MAX)
 undecided_is_near P rows e strike lo hi lawful ordered tight (f, has, (lowest, low, high)) scale =
     let known = pair_in_range rows has.pair lawful has.is_closest in
     let near = ends_are_near P has.pair e scale known.difference ordered tight.narrow in
     rw (low, high, has.forward_is) near
 
 -- they are not equal, so a forward with one value is not undecided
-pub undecided_has_two : (P : ℕ) (rows : List StrikeRow) (e : Ends) (strike : ℕ) (lo hi : ℤ) → StrikesRise rows → Says P rows e (level.Straddle strike lo hi)
+pub undecided_has_two : (P : ℕ) (rows : List StrikeRow) (e : Ends) (strike : ℕ) (lo hi : ℤ) → StrikesRise rows → SaysOfLevel P rows e (level.Straddle strike lo hi)
     → (pair : Pair) → IsClosestPair rows pair → (pair.d ≡ pos 0) ⊎ (e ≡ exact_ends P (pos 1)) → ⊥
 undecided_has_two P rows e strike lo hi rise (f, has, (lowest, low, high)) pair closest one =
     let pairs : has.pair ≡ pair = closest_pair_is_one rows has.pair pair rise has.is_closest closest in
@@ -158,13 +158,13 @@ high_vanishes u q k p =
     let positive : 0 < q * suc k = omega (arith, p) in
     none_below (div_ceil (high_term u 0 q k * 0) (q * suc k)) (q * suc k) (omega (arith, ceil_below (high_term u 0 q k * 0) (q * suc k) positive))
 
-low_stays : (u q n : ℕ) → low_sum u 0 q n ≡ u
-unfolding low_sum low_term
+low_stays : (u q n : ℕ) → low_sum_to u 0 q n ≡ u
+unfolding low_sum_to low_term
 low_stays u q zero = refl
 low_stays u q (suc n) = omega (arith, low_stays u q n, low_vanishes u q n)
 
-high_stays : (u q n : ℕ) → 0 < q → high_sum u 0 q n ≡ u
-unfolding high_sum high_term
+high_stays : (u q n : ℕ) → 0 < q → high_sum_to u 0 q n ≡ u
+unfolding high_sum_to high_term
 high_stays u q zero p = refl
 high_stays u q (suc n) p = omega (arith, high_stays u q n p, high_vanishes u q n p)
 

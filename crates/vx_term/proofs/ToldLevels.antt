@@ -46,7 +46,7 @@ use Rattle.vx_sum.specs.declared.fault.SumRefusal.{SumRefusal}
 use Rattle.vx_sum.specs.declared.fault.SumRefusal.TheVariants as sum_refusal
 use Rattle.vx_term.proofs.Results.{same_ok}
 use Rattle.vx_term.specs.declared.level.ToldLevel.{ToldLevel}
-use Rattle.vx_term.specs.Runs.{HasForward, ForwardSays, Says, TellsLevel, RefusesRows, IsRunOfRows}
+use Rattle.vx_term.specs.Runs.{HasForward, ForwardSays, SaysOfLevel, TellsLevel, RefusesRows, IsRunOfRows}
 use Rattle.vx_term.specs.Answer.{AtStandingRate, IsAnswerOfRows, IsTermAnswer}
 use Rattle.vx_term.specs.Exponential.{IsExpRun}
 use Rattle.vx_term.specs.Steps.{IsUpTo, IsExponentialInRange, IsTold, IsAnswerWithoutLevel, refusal_of_strip, refusal_of_sum}
@@ -149,7 +149,7 @@ module _ (P : ℕ) (x : Expiry) (facts : TermFacts) (rate : ℤ) (exp : ExpRun P
   of_rows (Refused NoPut) h = refused NoPut h
   of_rows (Refused NoCall) h = refused NoCall h
   of_rows (Refused (StripTooLarge upper)) h = refused (StripTooLarge upper) h
-  of_rows (UndecidedForward strike lo hi) h = (rate, stands, subst (λ (e : Ends). Says P facts.rows e (level.Straddle strike lo hi)) run.value h)
+  of_rows (UndecidedForward strike lo hi) h = (rate, stands, subst (λ (e : Ends). SaysOfLevel P facts.rows e (level.Straddle strike lo hi)) run.value h)
 
   pub term_from_rows : {E : Type 0} (result : Result (TermAnswer P) E) → IfOk result (IsAnswerOfRows P x facts.minutes rate exp facts.rows) → IfOk result (IsTermAnswer P x facts)
   term_from_rows (Ok a) h = of_rows a h

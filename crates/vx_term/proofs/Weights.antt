@@ -14,11 +14,11 @@ use Rattle.vx_interval.proofs.Enclosures.{add_encloses, scale_encloses, over_enc
 use Rattle.vx_interval.proofs.Ranges.{unit_at_most}
 use Rattle.vx_formula.specs.Index.{index_square, single_square}
 use Rattle.vx_term.specs.Index.{interpolated_ends, single_ends}
-use Rattle.vx_term.specs.Ranges.{IsWithin, IsVarianceInRange, IsSquareInRange}
+use Rattle.vx_term.specs.Ranges.{AreEndsWithin, IsVarianceInRange, IsSquareInRange}
 
 -- ---- ends within a limit
 
-pub scaled_within : (x : Ends) (k m : ℤ) → IsWithin m x → IsWithin (pos (nat_abs k) *ℤ m) (scale_ends x k)
+pub scaled_within : (x : Ends) (k m : ℤ) → AreEndsWithin m x → AreEndsWithin (pos (nat_abs k) *ℤ m) (scale_ends x k)
 scaled_within x (pos k) m h =
     let a = mul_mono_left (neg_ℤ m) x.lo (pos k) (omega (arith, ints)) h.low in
     let b = mul_mono_left x.hi m (pos k) (omega (arith, ints)) h.high in
@@ -30,17 +30,17 @@ scaled_within x (negsuc k) m h =
     let f : negsuc k *ℤ neg_ℤ m ≡ neg_ℤ (negsuc k *ℤ m) = mul_neg (negsuc k) m in
     record { low = omega (arith, ints); high = omega (arith, ints) }
 
-pub added_within : (x y : Ends) (m n : ℤ) → IsWithin m x → IsWithin n y → IsWithin (m +ℤ n) (add_ends x y)
+pub added_within : (x y : Ends) (m n : ℤ) → AreEndsWithin m x → AreEndsWithin n y → AreEndsWithin (m +ℤ n) (add_ends x y)
 added_within x y m n h k =
     let a = h.low in let b = h.high in let c = k.low in let d = k.high in
     record { low = omega (arith, ints); high = omega (arith, ints) }
 
-pub wider : (x : Ends) (m n : ℤ) → m ≤ℤ n → IsWithin m x → IsWithin n x
+pub wider : (x : Ends) (m n : ℤ) → m ≤ℤ n → AreEndsWithin m x → AreEndsWithin n x
 wider x m n h k =
     let a = k.low in let b = k.high in
     record { low = omega (arith, ints); high = omega (arith, ints) }
 
-pub over_within : (x : Ends) (den m : ℤ) → pos 0 <ℤ den → x.lo ≤ℤ x.hi → IsWithin (m *ℤ den) x → IsWithin m (over_ends x den)
+pub over_within : (x : Ends) (den m : ℤ) → pos 0 <ℤ den → x.lo ≤ℤ x.hi → AreEndsWithin (m *ℤ den) x → AreEndsWithin m (over_ends x den)
 over_within x den m p o h =
     let a = h.low in let b = h.high in
     record {
@@ -52,14 +52,14 @@ pub scaled_ordered : (x : Ends) (k : ℤ) → x.lo ≤ℤ x.hi → (scale_ends x
 scaled_ordered x (pos k) h = mul_mono_left x.lo x.hi (pos k) (omega (arith, ints)) h
 scaled_ordered x (negsuc k) h = mul_anti_left x.lo x.hi (negsuc k) (omega (arith, ints)) h
 
-within_range : (m : ℤ) (x : Ends) → m ≤ℤ pos (2 ^ 110) → IsWithin m x → IsInRange x
+within_range : (m : ℤ) (x : Ends) → m ≤ℤ pos (2 ^ 110) → AreEndsWithin m x → IsInRange x
 within_range m x h k =
     let a = k.low in let b = k.high in
     record { low = omega (arith, ints); high = omega (arith, ints) }
 
 -- ---- one term
 
-pub single_scaled : (P : ℕ) (w : Ends) → IsVarianceInRange P w → IsWithin ((pos 1024 *ℤ unit P) *ℤ pos 43200) (scale_ends w (pos 525600))
+pub single_scaled : (P : ℕ) (w : Ends) → IsVarianceInRange P w → AreEndsWithin ((pos 1024 *ℤ unit P) *ℤ pos 43200) (scale_ends w (pos 525600))
 single_scaled P w h =
     let u = unit_positive P in
     wider (scale_ends w (pos 525600)) _ _ (omega (arith, ints)) (scaled_within w (pos 525600) (pos 6 *ℤ unit P) h)
@@ -131,11 +131,11 @@ module _ (P : ℕ) (w1 w2 : Ends) (n1 n2 target : ℕ) (rising : n1 < n2) (last 
       omega (arith, ints)
 
   module _ (h1 : IsVarianceInRange P w1) (h2 : IsVarianceInRange P w2) where
-    pub mixed_within : IsWithin (pos 18 *ℤ apart) mixed
+    pub mixed_within : AreEndsWithin (pos 18 *ℤ apart) mixed
     mixed_within =
         wider mixed _ _ weighted (added_within (scale_ends w1 a) (scale_ends w2 b) _ _ (scaled_within w1 a (pos 6 *ℤ unit P) h1) (scaled_within w2 b (pos 6 *ℤ unit P) h2))
 
-    pub year_within : IsWithin (pos 9460800 *ℤ apart) year
+    pub year_within : AreEndsWithin (pos 9460800 *ℤ apart) year
     year_within = wider year _ _ (omega (arith, ints)) (scaled_within mixed (pos 525600) (pos 18 *ℤ apart) mixed_within)
 
     pub near_scaled_range : IsScale P → IsInRange (scale_ends w1 a)

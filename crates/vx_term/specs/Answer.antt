@@ -14,11 +14,11 @@ use Rattle.vx_term.specs.declared.answer.TermRun.{TermRun}
 use Rattle.vx_term.specs.declared.answer.TermAnswer.{TermAnswer}
 use Rattle.vx_term.specs.declared.answer.TermAnswer.TheVariants.{Run, Refused, UndecidedForward}
 use Rattle.vx_term.specs.Exponential.{IsExpRun}
-use Rattle.vx_term.specs.Runs.{Says, RefusesRows, IsRunOfRows}
+use Rattle.vx_term.specs.Runs.{SaysOfLevel, RefusesRows, IsRunOfRows}
 
 -- what is known of a term whose rows and rate are shown, so many minutes before its settlement
-abbrev pub facts_of : TermView → ℕ → TermFacts
-facts_of term minutes = record { rows = term.rows.now; rate = term.rate; minutes = minutes }
+abbrev pub facts_of_view : TermView → ℕ → TermFacts
+facts_of_view term minutes = record { rows = term.rows.now; rate = term.rate; minutes = minutes }
 
 -- and where a rate is given with the rows
 abbrev pub facts_at : TermView → ℕ → ℤ → TermFacts
@@ -50,7 +50,7 @@ abbrev pub IsTermAnswer : (P : ℕ) → Expiry → TermFacts → TermAnswer P �
 IsTermAnswer P x facts (Run run) = IsRun P x facts run
 IsTermAnswer P x facts (Refused refusal) = RefusesTerm P facts refusal
 IsTermAnswer P x facts (UndecidedForward strike lo hi) =
-    AtStandingRate P facts (λ e. Says P facts.rows e (level.Straddle strike lo hi))
+    AtStandingRate P facts (λ e. SaysOfLevel P facts.rows e (level.Straddle strike lo hi))
 
 -- the run has the numbers of these rows, and what was given with them
 pub record IsRunFrom (P : ℕ) (x : Expiry) (minutes : ℕ) (rate : ℤ) (exp : ExpRun P) (rows : List StrikeRow) (run : TermRun P) : Type 0 where
@@ -64,7 +64,7 @@ pub record IsRunFrom (P : ℕ) (x : Expiry) (minutes : ℕ) (rate : ℤ) (exp : 
 abbrev pub IsAnswerOfRows : (P : ℕ) → Expiry → ℕ → ℤ → ExpRun P → List StrikeRow → TermAnswer P → Type 0
 IsAnswerOfRows P x minutes rate exp rows (Run run) = IsRunFrom P x minutes rate exp rows run
 IsAnswerOfRows P x minutes rate exp rows (Refused refusal) = RefusesRows P rows exp.value refusal
-IsAnswerOfRows P x minutes rate exp rows (UndecidedForward strike lo hi) = Says P rows exp.value (level.Straddle strike lo hi)
+IsAnswerOfRows P x minutes rate exp rows (UndecidedForward strike lo hi) = SaysOfLevel P rows exp.value (level.Straddle strike lo hi)
 
 -- Q holds of the run, where the answer is one
 abbrev pub OnRun : (P : ℕ) → (TermRun P → Type 0) → TermAnswer P → Type 0

@@ -8,13 +8,13 @@ use Rattle.vx_formula.specs.Term.{TermFacts}
 use Rattle.vx_term.specs.declared.limits.TheConstants.{VARIANCE_WIDTH_MAX, SQUARE_WIDTH_MAX}
 
 -- both ends are within so many units in absolute value
-pub record IsWithin (limit : ℤ) (x : Ends) : Type 0 where
+pub record AreEndsWithin (limit : ℤ) (x : Ends) : Type 0 where
   pub low : neg_ℤ limit ≤ℤ x.lo
   pub high : x.hi ≤ℤ limit
 
 -- a variance times its term's time is within 6
 abbrev pub IsVarianceInRange : ℕ → Ends → Type 0
-IsVarianceInRange P w = IsWithin (pos VARIANCE_MAX *ℤ unit P) w
+IsVarianceInRange P w = AreEndsWithin (pos VARIANCE_MAX *ℤ unit P) w
 
 -- and at most 37,000 units wide
 abbrev pub IsVarianceNarrow : Ends → Type 0
@@ -22,7 +22,7 @@ IsVarianceNarrow w = width w ≤ℤ pos VARIANCE_WIDTH_MAX
 
 -- the square of the index over 100 is within 1024
 abbrev pub IsSquareInRange : ℕ → Ends → Type 0
-IsSquareInRange P x = IsWithin (pos SQUARE_MAX *ℤ unit P) x
+IsSquareInRange P x = AreEndsWithin (pos SQUARE_MAX *ℤ unit P) x
 
 -- and at most 5,788,000 units wide
 abbrev pub IsSquareNarrow : Ends → Type 0

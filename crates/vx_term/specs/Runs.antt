@@ -31,12 +31,12 @@ abbrev pub ForwardSays : ℕ → List StrikeRow → Ends → K0Answer → Type 0
 ForwardSays P rows f answer = IsK0Answer rows (printed_forward P f).0 (printed_forward P f).1 answer
 
 -- the forward, printed, says this of the level
-abbrev pub Says : ℕ → List StrikeRow → Ends → K0Answer → Type 0
-Says P rows e answer = (f : Ends) × HasForward P rows e f × ForwardSays P rows f answer
+abbrev pub SaysOfLevel : ℕ → List StrikeRow → Ends → K0Answer → Type 0
+SaysOfLevel P rows e answer = (f : Ends) × HasForward P rows e f × ForwardSays P rows f answer
 
 -- it tells the level
 abbrev pub TellsLevel : ℕ → List StrikeRow → Ends → ℕ → Type 0
-TellsLevel P rows e k = (place : ℕ) × Says P rows e (level.At place) × (k ≡ strike_at rows place)
+TellsLevel P rows e k = (place : ℕ) × SaysOfLevel P rows e (level.At place) × (k ≡ strike_at rows place)
 
 -- the rows have no strip at the level for this reason
 abbrev pub HasNoStrip : ℕ → List StrikeRow → Ends → StripRefusal → Type 0
@@ -54,8 +54,8 @@ pub record IsStripTooLarge (P : ℕ) (rows : List StrikeRow) (e : Ends) (upper :
 abbrev pub RefusesRows : ℕ → List StrikeRow → Ends → TermRefusal → Type 0
 RefusesRows P rows e NoRate = ⊥
 RefusesRows P rows e NoPair = live_pairs rows ≡ []
-RefusesRows P rows e NoStrikeBelow = Says P rows e level.NoStrikeBelow
-RefusesRows P rows e NoStrikeAbove = (place : ℕ) × Says P rows e (level.NoStrikeAbove place)
+RefusesRows P rows e NoStrikeBelow = SaysOfLevel P rows e level.NoStrikeBelow
+RefusesRows P rows e NoStrikeAbove = (place : ℕ) × SaysOfLevel P rows e (level.NoStrikeAbove place)
 RefusesRows P rows e NoMoney = HasNoStrip P rows e strip_refusal.NoMoney
 RefusesRows P rows e NoPut = HasNoStrip P rows e strip_refusal.NoPut
 RefusesRows P rows e NoCall = HasNoStrip P rows e strip_refusal.NoCall

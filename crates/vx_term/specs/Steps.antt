@@ -17,7 +17,7 @@ use Rattle.vx_term.specs.declared.answer.TermRun.{TermRun}
 use Rattle.vx_term.specs.declared.answer.TermAnswer.{TermAnswer}
 use Rattle.vx_term.specs.declared.answer.TermAnswer.TheVariants.{Run, Refused, UndecidedForward}
 use Rattle.vx_term.specs.declared.level.ToldLevel.{ToldLevel}
-use Rattle.vx_term.specs.Runs.{ForwardSays, Says, RefusesRows}
+use Rattle.vx_term.specs.Runs.{ForwardSays, SaysOfLevel, RefusesRows}
 
 -- both ends are from 0 to a limit
 pub record IsUpTo (limit : ℤ) (x : Ends) : Type 0 where
@@ -49,7 +49,7 @@ pub record IsTold (P : ℕ) (rows : List StrikeRow) (e : Ends) (told : ToldLevel
 abbrev pub IsAnswerWithoutLevel : (P : ℕ) → List StrikeRow → Ends → TermAnswer P → Type 0
 IsAnswerWithoutLevel P rows e (Run run) = ⊥
 IsAnswerWithoutLevel P rows e (Refused refusal) = RefusesRows P rows e refusal
-IsAnswerWithoutLevel P rows e (UndecidedForward strike lo hi) = Says P rows e (level.Straddle strike lo hi)
+IsAnswerWithoutLevel P rows e (UndecidedForward strike lo hi) = SaysOfLevel P rows e (level.Straddle strike lo hi)
 
 -- a term's refusal, or want of memory, where its strip is refused
 abbrev pub refusal_of_strip : StripRefusal → Result TermRefusal NoMemory

@@ -4,7 +4,7 @@ ghost use Rattle.std.specs.Prelude.{◌≡◌, ◌+◌, ◌^◌, ◌≤◌, IfOk
 ghost use Rattle.vx_symbol.specs.Rows.{IsLawfulTerm};
 ghost use Rattle.vx_interval.specs.Ends.{IsScale};
 ghost use Rattle.vx_formula.specs.Term.{Term, IsTermOf};
-ghost use Rattle.vx_term.specs.Answer.{IsAnswerOfRows, IsTermAnswer, OnRun, facts_of};
+ghost use Rattle.vx_term.specs.Answer.{IsAnswerOfRows, IsTermAnswer, OnRun, facts_of_view};
 ghost use Rattle.vx_term.specs.KeptAfter.{IsKeptAfter, IsSelectedStrip, SelectsStrip};
 ghost use Rattle.vx_term.specs.Meaning.{TermAnswerMeans, exponential_depth};
 ghost use Rattle.vx_term.specs.Ranges.{AreMinutesInRange};
@@ -41,14 +41,14 @@ pub fn term_variance_kept<const P: u32, L: Ledger>(
     requires lawful { IsLawfulTerm term.now }
     requires minutes { AreMinutesInRange minutes }
     requires count { steps.old ≤ 2 ^ 63 }
-    ensures answer { IfOk result (IsTermAnswer P term.now.expiry (facts_of term.now minutes)) }
-    ensures means { IfOk result (TermAnswerMeans P exponential_depth (facts_of term.now minutes)) }
+    ensures answer { IfOk result (IsTermAnswer P term.now.expiry (facts_of_view term.now minutes)) }
+    ensures means { IfOk result (TermAnswerMeans P exponential_depth (facts_of_view term.now minutes)) }
     ensures tight { IfOk result (IsTightAnswer P) }
-    ensures decided { (t : Term) → IsTermOf (facts_of term.now minutes) t → HasOneForward t
+    ensures decided { (t : Term) → IsTermOf (facts_of_view term.now minutes) t → HasOneForward t
         → IfOk result (IsForwardDecided P) }
     ensures exact { IfOk result (OnRun P (IsExactRun P)) }
     ensures in_range { IfOk result (OnRun P (IsRunInRange P)) }
-    ensures kept { let selected = IsSelectedStrip P (facts_of term.now minutes) in
+    ensures kept { let selected = IsSelectedStrip P (facts_of_view term.now minutes) in
         IsKeptAfter P selected kept.old kept.new steps.old steps.new result }
 {
     match term.rate {

@@ -10,7 +10,7 @@ ghost use Rattle.vx_interval.specs.Membership.{IsMember};
 ghost use Rattle.vx_formula.specs.declared.limits.TheConstants.{RATE_UNITS, YEAR_MINUTES};
 ghost use Rattle.vx_formula.specs.Pair.{Pair, IsClosestPair};
 ghost use Rattle.vx_formula.specs.Term.{Term, IsTermOf, exponent};
-ghost use Rattle.vx_term.specs.Answer.{IsAnswerOfRows, IsTermAnswer, OnRun, facts_at, facts_of};
+ghost use Rattle.vx_term.specs.Answer.{IsAnswerOfRows, IsTermAnswer, OnRun, facts_at, facts_of_view};
 ghost use Rattle.vx_term.specs.Exponential.{IsExpRun};
 ghost use Rattle.vx_term.specs.Holds.{AnswerHolds};
 ghost use Rattle.vx_term.specs.Meaning.{TermAnswerMeans, exponential_depth};
@@ -48,10 +48,10 @@ pub fn term_variance<const P: u32>(
     requires scale { IsScale P }
     requires lawful { IsLawfulTerm term.now }
     requires minutes { AreMinutesInRange minutes }
-    ensures answer { IfOk result (IsTermAnswer P term.now.expiry (facts_of term.now minutes)) }
-    ensures means { IfOk result (TermAnswerMeans P exponential_depth (facts_of term.now minutes)) }
+    ensures answer { IfOk result (IsTermAnswer P term.now.expiry (facts_of_view term.now minutes)) }
+    ensures means { IfOk result (TermAnswerMeans P exponential_depth (facts_of_view term.now minutes)) }
     ensures tight { IfOk result (IsTightAnswer P) }
-    ensures decided { (t : Term) → IsTermOf (facts_of term.now minutes) t → HasOneForward t
+    ensures decided { (t : Term) → IsTermOf (facts_of_view term.now minutes) t → HasOneForward t
         → IfOk result (IsForwardDecided P) }
     ensures exact { IfOk result (OnRun P (IsExactRun P)) }
     ensures in_range { IfOk result (OnRun P (IsRunInRange P)) }

@@ -1,6 +1,6 @@
 use Rattle.std.proofs.Common.{◌≡◌, ◌∙◌, ◌+◌, ◌*◌, refl, sym, ap, arith}
 use Rattle.std.specs.Int.{div_ceil}
-use Rattle.vx_bounds.specs.Exponential.{high_term, high_sum}
+use Rattle.vx_bounds.specs.Exponential.{high_term, high_sum_to}
 use Rattle.vx_bounds.proofs.EndLemmas.{high_at_most, high_so_far, high_first}
 use Rattle.vx_bounds.proofs.Steps.{high_next_is, high_sum_next, high_sum_first, collects_none, collects_more, terms_done}
 use Rattle.vx_bounds.proofs.exponential.high_terms.Goals as goal
@@ -44,5 +44,5 @@ returns c =
     c.next_high.ensures ∙ ap (λ z. div_ceil (z * c.args.p) (c.args.q * 13)) e ∙ sym (high_next_is c.args.first c.args.p c.args.q 12) in
     record {
       terms = terms_done _ _ _ _ _ _ _ last c.loop-k.invariant next;
-      sum = c.loop-k.invariant.added_is ∙ ap (high_sum c.args.first c.args.p c.args.q) last;
+      sum = c.loop-k.invariant.added_is ∙ ap (high_sum_to c.args.first c.args.p c.args.q) last;
     }

@@ -1,5 +1,5 @@
 use Rattle.std.proofs.Common.{◌≡◌, ◌∙◌, ◌+◌, ◌*◌, ◌/◌, refl, sym, ap, arith}
-use Rattle.vx_bounds.specs.Exponential.{low_term, low_sum}
+use Rattle.vx_bounds.specs.Exponential.{low_term, low_sum_to}
 use Rattle.vx_bounds.proofs.EndLemmas.{low_at_most, low_so_far, low_first}
 use Rattle.vx_bounds.proofs.Steps.{low_next_is, low_sum_next, low_sum_first, collects_none, collects_more, terms_done}
 use Rattle.vx_bounds.proofs.exponential.low_terms.Goals as goal
@@ -43,5 +43,5 @@ returns c =
     c.next_low.ensures ∙ ap (λ z. z * c.args.p / (c.args.q * 13)) e ∙ sym (low_next_is c.args.first c.args.p c.args.q 12) in
     record {
       terms = terms_done _ _ _ _ _ _ _ last c.loop-k.invariant next;
-      sum = c.loop-k.invariant.added_is ∙ ap (low_sum c.args.first c.args.p c.args.q) last;
+      sum = c.loop-k.invariant.added_is ∙ ap (low_sum_to c.args.first c.args.p c.args.q) last;
     }

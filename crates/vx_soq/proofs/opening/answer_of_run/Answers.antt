@@ -12,7 +12,7 @@ use Rattle.vx_term.specs.declared.answer.TermRun.{TermRun}
 use Rattle.vx_certify.specs.Certified.{AreIndexEnds, certified_figure}
 use Rattle.vx_soq.specs.declared.answer.Figure.{Figure}
 use Rattle.vx_soq.specs.declared.answer.OpeningAnswer.TheVariants.{Published}
-use Rattle.vx_soq.specs.Figures.{IsFigureAnswer, certificate_of_run}
+use Rattle.vx_soq.specs.Figures.{IsOpeningFigure, certificate_of_run}
 use Rattle.vx_soq.proofs.opening.answer_of_run.Goals as goal
 
 abbrev figure_with : ℕ → Certificate → ℤ → ℤ → Figure
@@ -23,7 +23,7 @@ figure_stands : (line time : ℕ) (run : TermRun SCALE) (square : Ends) (lo hi l
     (c : Certificate)
     → low ≡ lo → high ≡ hi → square ≡ single_ends run.w → AreIndexEnds SCALE square lo hi → Decides lo hi (decision.Cents cents)
     → figure ≡ certified_figure square low high cents → c ≡ certificate_of_run line time run figure
-    → IsFigureAnswer line time run (Published (figure_with cents c low high))
+    → IsOpeningFigure line time run (Published (figure_with cents c low high))
 figure_stands line time run square lo hi low high cents figure c same_low same_high of_run ends decides stated certified =
     let ends_of_run : AreIndexEnds SCALE (single_ends run.w) lo hi = subst (λ (x : Ends). AreIndexEnds SCALE x lo hi) of_run ends in
     let low_ends : AreIndexEnds SCALE (single_ends run.w) low hi =

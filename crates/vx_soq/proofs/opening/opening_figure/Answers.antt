@@ -10,7 +10,7 @@ use Rattle.vx_claims.specs.Seen.{opening_expiry}
 use Rattle.vx_soq.specs.declared.answer.OpeningAnswer.TheVariants.{Refused}
 use Rattle.vx_soq.specs.declared.answer.SoqReason.TheVariants.{NoOpening, NoTerm}
 use Rattle.vx_soq.specs.Complete.{PublishesWhereClear, RefusesWhereClear}
-use Rattle.vx_soq.specs.Figures.{IsJoined}
+use Rattle.vx_soq.specs.Figures.{IsAnswerByTerm}
 use Rattle.vx_soq.specs.Lawful.{IsLawfulOpening}
 use Rattle.vx_soq.specs.Openings.{HasNoTerm, IsOpeningAnswer}
 use Rattle.vx_soq.specs.Written.{CanBeWritten}
@@ -64,7 +64,7 @@ returns c =
     let place = c.in-Some-term_place.place in
     let view = c.opening_term-term.result in
     let is : (events : List Event) → StandsFor c.args.book.now events → IfOk result (IsOpeningAnswer events) =
-    λ events h. IfOk-weaker result (IsJoined opened.line opened.time said) (IsOpeningAnswer events)
+    λ events h. IfOk-weaker result (IsAnswerByTerm opened.line opened.time said) (IsOpeningAnswer events)
     (λ answer joined. answered events opened place view said answer (sym (c.in-Some.ensures.value events h))
     (c.in-Some-term_place.ensures events h)
     (ap (λ (l : List Expiry). slice_get l place) (sym h.expiries) ∙ c.opening_term-term.ensures.expiry)
