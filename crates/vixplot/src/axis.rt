@@ -10,7 +10,7 @@ use vx_num::limits::CENTS_MAX;
 
 /// The distances that lines of the scale of figures may have, in hundredths of a point.
 const CENT_STEPS: [u32; 15] = [
-    1, 2, 5, 10, 20, 50, 100, 200, 500, 1_000, 2_000, 5_000, 10_000, 20_000, CENT_STEP_MAX,
+    1, 2, 5, 10, 20, 50, 100, 200, 500, 1_000, 2_000, 5_000, 10_000, 20_000, 50_000,
 ];
 
 /// The distances that lines of the scale of times may have, in minutes.

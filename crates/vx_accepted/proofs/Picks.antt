@@ -18,6 +18,7 @@ both_or_not A B (inl a) (inl b) = inl (a, b)
 both_or_not A B (inr a) other = inr (λ h. a h.0)
 both_or_not A B (inl a) (inr b) = inr (λ h. b h.1)
 
+-- an expiry is in the near term's window, or it is not
 near_window_or_not : (today : DayNo) (days window : ℕ) (x : Expiry) → IsInNearWindow today days window x ⊎ ¬ IsInNearWindow today days window x
 near_window_or_not today days window x =
     let d : ℤ = days_until today x.date in

@@ -67,6 +67,7 @@ none_or_one_below k (row ∷ rows) =
       ]
     ]
 
+-- all rows are at or below a strike, or one is above it
 none_or_one_above : (k : ℕ) (rows : List StrikeRow) → ((row : StrikeRow) → In rows row → row.strike ≤ k) ⊎ ((row : StrikeRow) × In rows row × (k < row.strike))
 none_or_one_above k [] = inl (λ row h. elim h [ ])
 none_or_one_above k (row ∷ rows) =

@@ -56,6 +56,7 @@ rate_negative (negsuc n) minutes h = omega (arith, ints)
 size_is : (rate : ℤ) (minutes : ℕ) → nat_abs (rate *ℤ pos minutes) ≡ nat_abs rate * minutes
 size_is rate minutes = unsigned_abs-mul rate (pos minutes)
 
+-- a rate that stands is in range where each that stands is
 some_rate_in_range : (o : Option ℤ) (rate : ℤ) → o ≡ Some rate → IfSome o IsRateInRange → IsRateInRange rate
 some_rate_in_range o rate is h = let P : Option ℤ → Type 0 = λ x. IfSome x IsRateInRange in subst P is h
 

@@ -215,6 +215,7 @@ pub record IsFound (P p q low high last : ℕ) : Type 0 where
   pub fits : high + 2 * last < 2 ^ 63
   pub ordered : low ≤ high + 2 * last
 
+-- sums and a last term that are computed give the ends
 sums_are_found : (P p q low high last : ℕ) → IsScale P → 0 < q → 8 * p ≤ q → low ≡ low_sum_to (2 ^ P) p q 12 → high ≡ high_sum_to (2 ^ P) p q 12 → last ≡ high_term (2 ^ P) p q 13 → IsFound P p q low high last
 unfolding low_end high_end
 sums_are_found P p q low high last s hq h a b e =
@@ -227,7 +228,8 @@ sums_are_found P p q low high last s hq h a b e =
     record { low_is = a; high_is = f; last_small = omega arith; fits = omega arith; ordered = omega arith }
 
 -- the sums of a complete loop do
-pub found : (P p q one low high : ℕ) (terms : List ℕ) → IsScale P → 0 < q → 8 * p ≤ q → one ≡ 2 ^ P → low ≡ low_sum_to one p q 12 → high ≡ high_sum_to one p q 12 → IsTerms (high_term one p q) terms → IsFound P p q low high (get_or terms 13 0)
+pub found : (P p q one low high : ℕ) (terms : List ℕ) → IsScale P → 0 < q → 8 * p ≤ q → one ≡ 2 ^ P → low ≡ low_sum_to one p q 12
+    → high ≡ high_sum_to one p q 12 → IsTerms (high_term one p q) terms → IsFound P p q low high (get_or terms 13 0)
 found P p q one low high terms s hq h e a b t =
     sums_are_found P p q low high (get_or terms 13 0) s hq h (a ∙ ap (λ u. low_sum_to u p q 12) e) (b ∙ ap (λ u. high_sum_to u p q 12) e) (t.each 13 (omega arith) ∙ ap (λ u. high_term u p q 13) e)
 

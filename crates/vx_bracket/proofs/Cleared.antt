@@ -36,6 +36,7 @@ top_positive p q n h = let b = bottom_below_top p q n in let c = bottom_positive
 
 -- ---- nested
 
+-- a sum does not fall by one more term
 series_step : (p q n : ℕ) → series_top p q n * series_bottom q (suc n) ≤ series_top p q (suc n) * series_bottom q n
 unfolding series_bottom series_top
 series_step p q n = omega arith
@@ -51,6 +52,7 @@ low_nested p q n (suc m) hq h =
           (bottom_positive q m hq) (low_nested p q n m hq (omega arith)) (series_step p q m)
     ]
 
+-- a sum with twice its next term does not rise by one more
 upper_step : (p q n : ℕ) → 2 * p ≤ q * suc (suc n) → upper_top p q (suc n) * series_bottom q (suc n) ≤ upper_top p q n * series_bottom q (suc (suc n))
 unfolding series_bottom series_top upper_top
 upper_step p q n h =

@@ -55,7 +55,7 @@ has_member_at n (pos p) q hq = (
 has_member_at n (negsuc p) q hq = (
   natural (series_bottom q n) (series_top (suc p) q n),
   down_bracket n p q (series_bottom q n) (series_top (suc p) q n) hq (bottom_positive q n hq) (top_positive (suc p) q n hq)
-  (record { above_sum = le_refl (series_top (suc p) q n * series_bottom q n); below_upper = low_below_high (suc p) q n }),
+      (record { above_sum = le_refl (series_top (suc p) q n * series_bottom q n); below_upper = low_below_high (suc p) q n }),
 )
 
 -- each bracket has a member

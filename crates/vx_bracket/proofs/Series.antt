@@ -90,6 +90,7 @@ same_below a b t s u v hb hs e h =
     let three : b * (t * v) ≤ b * (u * s) = omega arith in
     le_of_mul-le-mul_left three hb
 
+-- a bound on a quotient bounds each quotient that equals it
 same_quotient_above : (a b t s u v : ℕ) → 0 < b → 0 < s → a * s ≡ t * b → u * b ≤ a * v → u * s ≤ t * v
 same_quotient_above a b t s u v hb hs e h =
     let one : s * (u * b) ≤ s * (a * v) = mul-le-mul_left s h in

@@ -37,6 +37,7 @@ test_at-number Variance = refl
 test_at-number Square = refl
 test_at-number IndexEnds = refl
 
+-- the number of the first test that fails is one
 failing_number_is_one : (Holds : Test → Type 0) (s t : Test) → FirstFailing Holds s → FirstFailing Holds t → test_number s ≡ test_number t
 failing_number_is_one Holds s t h l =
     elim (cases_order (test_number s) (test_number t)) [

@@ -23,6 +23,7 @@ use Rattle.vx_claims.proofs.RisingRows.{in_insert}
 abbrev pub AllInRange : List Event → Type 0
 AllInRange events = (e : Event) → In events e → IsInRange e
 
+-- events that are lawful behind others are in range
 in_range_after : (before events : List Event) → AreLawfulAfter before events → AllInRange events
 in_range_after before [] h e none = elim none [ ]
 in_range_after before (d ∷ events) h e (inl same) = subst IsInRange same (h.0).in_range
@@ -32,6 +33,7 @@ in_range_after before (d ∷ events) h e (inr later) = in_range_after (before ++
 pub lawful_in_range : (events : List Event) → AreLawful events → AllInRange events
 lawful_in_range events h = in_range_after [] events h
 
+-- an event since a series was listed is one of the events
 in_since : (s : Symbol) (events : List Event) (e : Event) → In (since_listed s events) e → In events e
 in_since s [] e h = elim h [ ]
 in_since s (d ∷ events) e h =
@@ -45,6 +47,7 @@ in_since s (d ∷ events) e h =
 pub since_in_range : (s : Symbol) (events : List Event) → AllInRange events → AllInRange (since_listed s events)
 since_in_range s events h = λ e at. h e (in_since s events e at)
 
+-- and so is one before the opening
 in_before : (events : List Event) (e : Event) → In (before_opening events) e → In events e
 in_before [] e h = elim h [ ]
 in_before (d ∷ events) e h =
@@ -58,6 +61,7 @@ in_before (d ∷ events) e h =
 pub before_in_range : (events : List Event) → AllInRange events → AllInRange (before_opening events)
 before_in_range events h = λ e at. h e (in_before events e at)
 
+-- and one of the first
 in_take : (n : ℕ) (events : List Event) (e : Event) → In (take n events) e → In events e
 in_take zero [] e h = elim h [ ]
 in_take (suc n) [] e h = elim h [ ]
@@ -76,6 +80,7 @@ pub chosen : {A : Type 0} (b : Bool) (a r : A) → cond b (Some a) None ≡ Some
 chosen true a r h = cc
 chosen false a r h = absurd cc
 
+-- a strike that an event in range lists is in range
 listed_in_range : (x : Expiry) (e : Event) (k : ℕ) → IsInRange e → listed_strike x e ≡ Some k → IsStrikeInRange k
 listed_in_range x (event.Series s) k range h = subst IsStrikeInRange (chosen (is_same_expiry x (expiry_of s)) s.strike k h) range.strike
 listed_in_range x (event.Header day) k range h = absurd cc
@@ -87,6 +92,7 @@ listed_in_range x (event.Tick time) k range h = absurd cc
 listed_in_range x (event.Opening time) k range h = absurd cc
 listed_in_range x (event.End count) k range h = absurd cc
 
+-- a strike in a list with one more is that one, or was there before
 in_with_strike : (o : Option ℕ) (js : List ℕ) (i : ℕ) → In (with_strike o js) i → (o ≡ Some i) ⊎ In js i
 in_with_strike None js i h = inr h
 in_with_strike (Some k) js i h = elim (in_insert k js i h) [ inl e ↦ inl (ap Some e) | inr later ↦ inr later ]
@@ -116,6 +122,7 @@ last_in says (e ∷ events) r h =
       | inr here ↦ (e, inl refl, here)
     ]
 
+-- a rate that an event in range says is in range
 said_rate : (x : Expiry) (e : Event) (r : ℤ) → IsInRange e → rate_of x e ≡ Some r → IsRateInRange r
 said_rate x (event.Rate y rate) r range h = subst IsRateInRange (chosen (is_same_expiry x y) rate r h) range.1
 said_rate x (event.Header day) r range h = absurd cc

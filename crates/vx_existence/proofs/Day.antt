@@ -215,6 +215,7 @@ printed_are : printed_forward SCALE forward ≡ (printed, printed)
 unfolding unit floor_of ceiling_of
 printed_are = refl
 
+-- what is in a list of three is one of them
 in_list_of_three : (a b c k : ℕ) → In (a ∷ (b ∷ (c ∷ []))) k → (a ≡ k) ⊎ ((b ≡ k) ⊎ (c ≡ k))
 in_list_of_three a b c k (inl e) = inl e
 in_list_of_three a b c k (inr (inl e)) = inr (inl e)
@@ -246,6 +247,7 @@ says =
       λ none. let far : 4000000 < 2100000 = none 2100000 (2, omega arith, refl) (omega arith) in omega (arith, far),
     )
 
+-- the level's row has both prices
 level_has_money : LacksMoney rows 2000000 → ⊥
 level_has_money h = of_row h.row (in_from_contains rows h.row h.listed) h.at_level h.lacks
   where
@@ -314,6 +316,7 @@ next_answer = subst (λ (facts : TermFacts). IsRun SCALE weekly_24 facts next_ru
 abbrev square : Ends
 square = ends_at 196803538858693955 196803538858694029
 
+-- the square of the index from the two runs
 index_square_is : square_of_runs 30 near_run next_run ≡ square
 unfolding unit floor_of ceiling_of
 index_square_is = refl

@@ -24,6 +24,7 @@ not_straddled v hi short (b, inr (k, is), above, most) =
     let past = no_earlier v k later in
     omega (arith, ints, is, most, short, past)
 
+-- two ends below zero straddle no boundary
 negative_not_straddled : (n : ℕ) (hi : ℤ) → hi <ℤ pos 0 → IsStraddled (negsuc n) hi → ⊥
 negative_not_straddled n hi below (b, inl zero, above, most) = omega (arith, ints, zero, most, below)
 negative_not_straddled n hi below (b, inr (k, is), above, most) = omega (arith, ints, is, most, below)

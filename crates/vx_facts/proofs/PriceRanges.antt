@@ -19,6 +19,7 @@ use Rattle.vx_claims.proofs.InRange.{AllInRange, since_in_range, before_in_range
 
 -- ---- rates
 
+-- the rate that is said last is in range, where there is one
 rate_of_last : (x : Expiry) (events : List Event) (o : Option ℤ) → AllInRange events → last_said (rate_of x) events ≡ o → IfSome o IsRateInRange
 rate_of_last x events None range h = tt
 rate_of_last x events (Some r) range h = said_rate_in_range x events r range h
@@ -46,6 +47,7 @@ said_quote s (event.Tick time) q range h = absurd cc
 said_quote s (event.Opening time) q range h = absurd cc
 said_quote s (event.End count) q range h = absurd cc
 
+-- the price of a quote in range is lawful
 quoted_price_lawful : (o : Option BidAsk) → IfSome o IsQuoteInRange → IsLawfulPrice (quoted_price o)
 quoted_price_lawful None h = record { in_range = omega arith; absent = λ e. (refl, refl) }
 quoted_price_lawful (Some q) h = let bid = h.bid_is in let ask = h.ask_is in record { in_range = omega arith; absent = λ e. absurd cc }
@@ -80,6 +82,7 @@ said_trade s (event.Tick time) p range h = absurd cc
 said_trade s (event.Opening time) p range h = absurd cc
 said_trade s (event.End count) p range h = absurd cc
 
+-- what is said first is said by one of the events
 first_in : {A : Type 0} (says : Event → Option A) (events : List Event) (r : A) → first_said says events ≡ Some r → (e : Event) × In events e × (says e ≡ Some r)
 first_in says [] r h = absurd cc
 first_in says (e ∷ events) r h =

@@ -28,6 +28,7 @@ level_is_selected rows level row h e =
 kept : (p : StrikeRow → Bool) (r : StrikeRow) (rows : List StrikeRow) → p r ≡ true → filter p (r ∷ rows) ≡ r ∷ filter p rows
 kept p r rows e = cond-true (p r) (r ∷ filter p rows) (filter p rows) e
 
+-- a filter drops a row that fails its test
 filter_drops : (p : StrikeRow → Bool) (r : StrikeRow) (rows : List StrikeRow) → p r ≡ false → filter p (r ∷ rows) ≡ filter p rows
 filter_drops p r rows e = cond-false (p r) (r ∷ filter p rows) (filter p rows) e
 

@@ -73,6 +73,7 @@ strike_within P strike h =
     let u = unit_positive P in
     (mul_nonneg (pos strike) (unit P) (omega (arith, ints)) (omega (arith, ints)), mul_mono (pos strike) (pos 50000000) (unit P) (omega (arith, ints)) (omega (arith, ints)))
 
+-- the interval of a strike alone is in range
 pub exact_strike_in_range : (P : ℕ) (strike : ℕ) → IsScale P → strike ≤ 50000000 → IsInRange (exact_ends P (pos strike))
 exact_strike_in_range P strike s h =
     let w = strike_within P strike h in
@@ -132,18 +133,21 @@ end_is_small P z s l h =
     let m = range_unit P in
     within z (2 ^ 89) (omega (arith, ints)) (omega (arith, ints))
 
+-- a floor that the code computes, of numbers equal to these, is their floor
 pub floor_cast_is : (a b a' b' n : ℤ) → a' ≡ a → b' ≡ b → pos 0 <ℤ b → mag n < 2 ^ 127 → IsFloor a' b' n → cast n ≡ floor_of a b
 floor_cast_is a b a' b' n p q h f k =
     let P : ℤ → Type 0 = λ x. IsFloor x b' n in
     let Q : ℤ → Type 0 = λ x. IsFloor a x n in
     cast_is n (floor_of a b) f (floor_found a b n h (subst Q q (subst P p k)))
 
+-- and a ceiling their ceiling
 pub ceiling_cast_is : (a b a' b' n : ℤ) → a' ≡ a → b' ≡ b → pos 0 <ℤ b → mag n < 2 ^ 127 → IsCeiling a' b' n → cast n ≡ ceiling_of a b
 ceiling_cast_is a b a' b' n p q h f k =
     let P : ℤ → Type 0 = λ x. IsCeiling x b' n in
     let Q : ℤ → Type 0 = λ x. IsCeiling a x n in
     cast_is n (ceiling_of a b) f (ceiling_found a b n h (subst Q q (subst P p k)))
 
+-- a number equal to one of at most 2^89 in absolute value is as small
 pub small_end_given : (z z' : ℤ) → z' ≡ z → nat_abs z ≤ 2 ^ 89 → nat_abs z' ≤ 2 ^ 89
 small_end_given z z' e h = let P : ℤ → Type 0 = λ x. nat_abs x ≤ 2 ^ 89 in subst P (sym e) h
 

@@ -36,6 +36,7 @@ place_listed rows k h =
     contains_from_in (strikes rows) (strike_at rows k)
     (map_in (λ (row : StrikeRow). row.strike) rows (get_or rows k some_row) (in_from_contains rows (get_or rows k some_row) (Contains-get_or rows k some_row h)))
 
+-- the row at a place is of a listed strike
 pub row_at_is_listed : (rows : List StrikeRow) (k : ℕ) (row : StrikeRow) → slice_get rows k ≡ Some row → IsListed rows row.strike
 row_at_is_listed rows k row h =
     subst (IsListed rows) (ap (λ (r : StrikeRow). r.strike) (get_or_from_slice_get rows k row some_row h)) (place_listed rows k (slice_get_within rows k row h))
@@ -46,6 +47,7 @@ for_listed rows P h strike listed =
     let at = listed_place rows strike listed in
     subst P at.2 (h at.0 at.1)
 
+-- of two places the later has the higher strike
 pub strikes_rise_by_place : (rows : List StrikeRow) → StrikesRise rows → (i j : ℕ) → i < j → j < length rows → strike_at rows i < strike_at rows j
 strikes_rise_by_place rows rise i j h k = rise i j some_row h k
 

@@ -14,6 +14,7 @@ use Rattle.vx_formula.specs.Pair.{Pair}
 use Rattle.vx_forward.specs.Forward.{forward_interval, printed_forward}
 use Rattle.vx_forward.proofs.ForwardLemmas.{forward_width}
 
+-- from scale 60 on the unit is at least 2^60
 unit_at_least_sixty : (P : ℕ) → 60 ≤ P → pos (2 ^ 60) ≤ℤ unit P
 unfolding unit
 unit_at_least_sixty P h = let m : 2 ^ 60 ≤ 2 ^ P = pow_mono h in omega (arith, ints)

@@ -146,6 +146,7 @@ no_lf (b ∷ line) plain =
 
 -- ---- the lines of a text of events
 
+-- the text of events is that of their lines
 text_is_lines : (events : List Event) → text_of_events events ≡ text_of (map event_line events)
 text_is_lines [] = refl
 text_is_lines (e ∷ events) = append_assoc (event_line e) (line_feed ∷ []) (text_of_events events) ∙ ap (λ t. event_line e ++ line_feed ∷ t) (text_is_lines events)

@@ -23,6 +23,7 @@ pub record IsUnanswered (e : Event) : Type 0 where
   pub leaves_strips : (events : List Event) (strips : List Holding) (count : ℕ) (memory : NoMemory)
       → AreKeptAfter events e strips strips count count (Err memory)
 
+-- an event that is no tick is not answered
 pub no_tick_is_unanswered : (e : Event) → IsNoTick e → IsUnanswered e
 no_tick_is_unanswered (event.Header day) h = record { answers_none = λ events. refl; leaves_strips = λ events strips count memory. record { same = refl; none = refl } }
 no_tick_is_unanswered (event.Expiry x) h = record { answers_none = λ events. refl; leaves_strips = λ events strips count memory. record { same = refl; none = refl } }

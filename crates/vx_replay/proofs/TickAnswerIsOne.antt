@@ -35,6 +35,7 @@ with_run_one line time days x y near_facts next_facts near (term.Run next) a b h
 with_run_one line time days x y near_facts next_facts near (term.Refused refusal) a b h k p q = p ∙ sym q
 with_run_one line time days x y near_facts next_facts near (term.UndecidedForward strike lo hi) a b h k p q = p ∙ sym q
 
+-- the answer by the answers for two terms is one
 joined_tick_is_one : (line time days : ℕ) (x y : Expiry) (near_facts next_facts : TermFacts) (near next : TermAnswer SCALE) (a b : TickAnswer)
     → IsTermAnswer SCALE x near_facts near → IsTermAnswer SCALE y next_facts next
     → IsJoined line time days near next a → IsJoined line time days near next b → a ≡ b

@@ -65,6 +65,7 @@ right_true false b e = cc
 contract_at : (contract : Contract) (last : ℕ) (p : Position) → is_position_at contract last p ≡ true → contract ≡ p.contract
 contract_at contract last p e = same_contract contract p.contract (left_true (is_same_contract contract p.contract) (last == p.last) e)
 
+-- the last price of a position that is found is the one that was sought
 position_last_is : (contract : Contract) (last : ℕ) (p : Position) → is_position_at contract last p ≡ true → last ≡ p.last
 position_last_is contract last p e = eqb-true last p.last (right_true (is_same_contract contract p.contract) (last == p.last) e)
 

@@ -65,6 +65,7 @@ clear_opening_is_published events (UndecidedForward strike lo hi) lawful is none
     term_is_decided _ is.time strike lo hi is.term_answer (forward_is_decided events (UndecidedForward strike lo hi) lawful is forward) is.joined
 clear_opening_is_published events (Refused reason) lawful is none forward index = none _ (opening_answer_is_lawful events (Refused reason) lawful is).holds
 
+-- the one refusal behind the undecided cents is that of a negative variance
 late_opening_is_negative : (reason : OpeningReason) → opening_cents_undecided_place ≤ opening_place reason → reason ≡ negative_opening
 late_opening_is_negative no_opening late = absurd (omega (arith, late))
 late_opening_is_negative no_term late = absurd (omega (arith, late))

@@ -25,6 +25,7 @@ use Rattle.vx_soq.specs.Figures.{IsAnswerByTerm}
 use Rattle.vx_soq.specs.Openings.{IsTaken, HasNoTerm, IsAnswerOfTerm, IsOpeningAnswer}
 use Rattle.vx_soq.proofs.FigureIsOne.{square_is_in_order, figure_is_one}
 
+-- the answer by the answer for the opening's term is one
 joined_opening_is_one : (line time : ℕ) (x : Expiry) (facts : TermFacts) (answer : TermAnswer SCALE) (a b : OpeningAnswer)
     → IsTermAnswer SCALE x facts answer → IsAnswerByTerm line time answer a → IsAnswerByTerm line time answer b → a ≡ b
 joined_opening_is_one line time x facts (term.Run run) a b h p q = figure_is_one line time run a b (square_is_in_order x facts run h) p q
@@ -36,6 +37,7 @@ chosen : (b : Bool) (facts other : TermFacts) → cond b (Some facts) None ≡ S
 chosen true facts other e = same_Some facts other e
 chosen false facts other e = absurd (none-some other e)
 
+-- the rows of the opening's term rise in strike
 opening_rows_rise : (events : List Event) (day : DayNo) (facts : TermFacts) → opening_term_of events day ≡ Some facts → StrikesRise facts.rows
 opening_rows_rise events day facts e =
     let same : opening_term_facts events day ≡ facts = chosen (is_declared (opening_expiry day) (before_opening events)) (opening_term_facts events day) facts e in

@@ -24,6 +24,7 @@ use Rattle.vx_soq.specs.Figures.{IsAnswerByTerm}
 use Rattle.vx_soq.specs.Openings.{HasNoTerm, IsAnswerOfTerm}
 use Rattle.vx_soq.specs.Laws.{OpeningAnswerStays}
 
+-- the first of two answers stays where the second does
 or_stays : {A : Type 0} → (a b c : Option A) → (IsSome b → c ≡ b) → IsSome (option_or a b) → option_or a c ≡ option_or a b
 or_stays None b c more h = more h
 or_stays (Some v) b c more h = refl

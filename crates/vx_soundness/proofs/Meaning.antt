@@ -447,6 +447,7 @@ means_opening events v line time t figure lawful version all =
 
 -- ---- every kind
 
+-- a body that passes its tests means what it says
 accepted_body_means : (days window : ℕ) (events : List Event) (v line time : ℕ) (body : CertBody) → days + window ≤ DAYS_AHEAD_MAX → AreLawful events → IsVersion v
     → ((test : Test) → BodyMeets days window events v line time body test) → BodyMeans days window events line time body
 accepted_body_means days window events v line time (K0 x pair k0) fits lawful version all =

@@ -114,6 +114,7 @@ sums_apart a b Q = let e : (a + b) * (Q * Q) ≡ (a * Q + b * Q) * Q = omega ari
 sums_together : (a b Q : ℕ) → (over (pos a) Q +ᶠ over (pos b) Q) ≤ᶠ over (pos (a + b)) Q
 sums_together a b Q = let e : (a + b) * (Q * Q) ≡ (a * Q + b * Q) * Q = omega arith in omega (arith, ints)
 
+-- one contribution more is enclosed by the sums with its ends
 contribution_more : (P : ℕ) (row : CertRow) (low high : ℕ) (rest : Fraction) → EnclosesContribution P row → 1 ≤ row.strike → IsSummed (2 ^ P) low high rest
     → IsSummed (2 ^ P) (row.lo + low) (row.hi + high) (contribution (stated_entry row) +ᶠ rest)
 contribution_more P row low high rest tests some h =

@@ -18,6 +18,7 @@ use Rattle.vx_formula.proofs.Walks.{no_row, at_place, in_order, one_at_strike}
 pub strike_at_read : (rows : List StrikeRow) (k0 : ℕ) → k0 < length rows → strike_at rows k0 ≡ (get_or rows k0 no_row).strike
 strike_at_read rows k0 listed = get_or-map (λ r. r.strike) rows k0 no_row 0 listed
 
+-- a level whose row has both prices lacks no money
 pub has_money : (rows : List StrikeRow) (k0 : ℕ) → StrikesRise rows → k0 < length rows → ((get_or rows k0 no_row).put.there && (get_or rows k0 no_row).call.there) ≡ true → ¬ LacksMoney rows (strike_at rows k0)
 has_money rows k0 rise listed there lacks =
     let c = lacks.listed in

@@ -99,6 +99,7 @@ entry_in_range level below row rest lawful least greatest = record {
   q4_max = price_in_range level row lawful;
 }
 
+-- the entries of rows above a strike are in range
 entries_after_in_range : (level b : ℕ) (rows : List StrikeRow) → StrikesRise rows → All IsLawfulRow rows → All (λ row. b < row.strike) rows → All IsEntryInRange (entries_after level (Some b) rows)
 entries_after_in_range level b [] rise lawful above = All-nil IsEntryInRange
 entries_after_in_range level b (r ∷ []) rise lawful above =
@@ -150,10 +151,12 @@ strikes_made : (level : ℕ) (below : Option ℕ) (selected : List StrikeRow) �
 strikes_made level below [] = refl
 strikes_made level below (r ∷ rest) = ap (λ xs. r.strike ∷ xs) (strikes_made level (Some r.strike) rest)
 
+-- the strikes of rows' entries are those of the rows
 entry_strikes_are : (rows : List StripRow) → map (λ e. e.strike) (map entry_of rows) ≡ map (λ row. row.strike) rows
 entry_strikes_are [] = refl
 entry_strikes_are (r ∷ rest) = ap (λ xs. r.strike ∷ xs) (entry_strikes_are rest)
 
+-- the strikes of a strip's rows are those of the selected rows
 pub strip_strikes_are : (level : ℕ) (rows : List StripRow) (selected : List StrikeRow) → map entry_of rows ≡ entries_after level None selected → map (λ row. row.strike) rows ≡ strikes selected
 strip_strikes_are level rows selected made = sym (entry_strikes_are rows) ∙ ap (map (λ e. e.strike)) made ∙ strikes_made level None selected
 
@@ -161,6 +164,7 @@ pub same_length : (level : ℕ) (rows : List StripRow) (selected : List StrikeRo
 same_length level rows selected made =
     sym (length-map rows (λ row. row.strike)) ∙ ap length (strip_strikes_are level rows selected made) ∙ length-map selected (λ row. row.strike)
 
+-- so a strip's rows rise in strike
 pub strip_rows_rise : (level : ℕ) (rows : List StripRow) (selected : List StrikeRow) → map entry_of rows ≡ entries_after level None selected → StrikesRise selected → AllPairs (λ a b. a.strike < b.strike) rows
 strip_rows_rise level rows selected made rise = λ i j d below there.
     let len : length rows ≡ length selected = same_length level rows selected made in

@@ -13,6 +13,7 @@ one_up n m f positive floor inexact =
     let split : n + (m - 1) ≡ (f + 1) * m + rest = omega (arith, same, at_most, next, inexact) in
     sym (ap (λ x. x / m) split ∙ div-mul-add (f + 1) m rest (omega (arith, same, next)))
 
+-- the unit of a scale of at most 62 is at most 2^62
 pub power_of_two_at_most : (P u : ℕ) → P ≤ 62 → u ≡ 2 ^ P → u ≤ 2 ^ 62
 power_of_two_at_most P u small is =
     let most : 2 ^ P ≤ 2 ^ 62 = pow-le-pow_right {n = 2} (omega arith) small in

@@ -29,6 +29,7 @@ one_apart n m positive =
     let less : (n + (m - 1)) / m < n / m + 2 = (div-lt_iff_lt-mul {k = m} {x = n + (m - 1)} {y = n / m + 2} positive).1 (omega (arith, next)) in
     omega (arith, less)
 
+-- the divisor of a contribution is positive
 contribution_divisor_positive : (row : StripRow) → IsRowInRange row → 0 < 4 * (row.strike * row.strike)
 contribution_divisor_positive row h =
     let least = h.strike.0 in

@@ -49,6 +49,7 @@ row_small P row scale h =
 
 -- ---- one row on
 
+-- a sum over the first rows, one row on
 pub sum_by_more : (f : StripEntry → ℕ) (rows : List StripRow) (i old new x : ℕ) → i < length rows → old ≡ sum_by f (map entry_of (take i rows))
     → new ≡ old + x → x ≡ f (entry_of (get_or rows i no_row)) → new ≡ sum_by f (map entry_of (take (i + 1) rows))
 sum_by_more f rows i old new x low so_far sum is =
@@ -121,6 +122,7 @@ step_of : (b t : Bool) → t ≡ not b → cond b 0 1 ≡ as_step t
 step_of true t is = sym (ap as_step is)
 step_of false t is = sym (ap as_step is)
 
+-- so many of the first rows are touched, one row on
 pub touched_more : (kept rows : List StripRow) (place place' i start steps steps' : ℕ) → i < length rows → Rises kept → IsPassed kept place rows i → IsFirstFrom kept place (get_or rows i no_row).strike place'
     → steps ≡ start + touched_count (map entry_of kept) (map entry_of (take i rows))
     → steps' ≡ steps + cond (is_kept_at kept place' (get_or rows i no_row)) 0 1

@@ -58,6 +58,7 @@ mul_ordered P x y =
     let high = (greatest_at_least ll lh hl hh).0 in
     by_positive (least_product x y) (greatest_product x y) (unit P) (unit_positive P) (omega (arith, ints))
 
+-- the ends of a square are in order
 square_ends_ordered : (P : ℕ) (x : Ends) → AreInOrder (square_ends P x)
 square_ends_ordered P x =
     let low = (least_is_least x).0 in

@@ -48,6 +48,7 @@ exp_run_is_one P x a b h k =
 abbrev row_of : StripEntry → StripRow
 row_of entry = record { strike = entry.strike; d = entry.d; q4 = entry.q4 }
 
+-- the rows of a strip are those of its entries
 rows_of_entries : (rows : List StripRow) → map row_of (map entry_of rows) ≡ rows
 rows_of_entries [] = refl
 rows_of_entries (row ∷ rows) = ap (λ rest. row ∷ rest) (rows_of_entries rows)
