@@ -1,11 +1,11 @@
 -- One step of a list of terms, as the code takes it.
-use Rattle.std.proofs.Common.{◌≡◌, ◌∙◌, ℕ, ◌+◌, ◌*◌, ◌/◌, ◌^◌, ◌<◌, ◌≤◌, List, length, get_or, set, sym, subst, arith, mul-le-mul_left, mul-le-mul_right, mul-le-mul, add-one, eq-or-lt_of_le, refl, inl, inr, ◌≢◌, le_of_lt}
+use Rattle.std.proofs.Common.{◌≡◌, ◌∙◌, ℕ, ◌+◌, ◌*◌, ◌/◌, ◌^◌, ◌<◌, ◌≤◌, List, length, get_or, set, sym, subst, arith, mul-le-mul_left, mul-le-mul_right, mul-le-mul, mul-pos, add-one, eq-or-lt_of_le, refl, inl, inr, ◌≢◌, le_of_lt}
 use Rattle.std.proofs.lemmas.List.{get_or-set_same, get_or-set_other, length-set}
 use Rattle.std.proofs.lemmas.Bool.{cases_lt}
 use Rattle.std.proofs.Math.Nat.{div-le_of_le-mul}
 use Rattle.std.specs.Int.{div_ceil}
 use Rattle.vx_bounds.specs.Exponential.{IsTerms, low_term, high_term, low_sum_to, high_sum_to}
-use Rattle.vx_bounds.proofs.TermLemmas.{divisor_positive, ceil_below}
+use Rattle.vx_bounds.proofs.TermLemmas.{ceil_below}
 use Rattle.vx_bounds.proofs.EndLemmas.{low_first, high_first}
 use Rattle.vx_bounds.proofs.Loops.{Collects}
 
@@ -30,7 +30,8 @@ pub high_fits : (t p q k : ℕ) → 0 < q → 8 * p ≤ q → div_ceil (t * p) (
 high_fits t p q k hq h =
     let d : ℕ = q * (k + 1) in
     let m : t * p ≤ t * d = mul-le-mul_left t (divisor_above p q k h) in
-    let c : div_ceil (t * p) d * d < t * p + d = ceil_below (t * p) d (divisor_positive q k hq) in
+    let positive : 0 < q * (k + 1) = mul-pos hq (omega arith) in
+    let c : div_ceil (t * p) d * d < t * p + d = ceil_below (t * p) d positive in
     below (div_ceil (t * p) d) (t + 1) d (omega arith)
   where
     below : (a b d : ℕ) → a * d < b * d → a ≤ b

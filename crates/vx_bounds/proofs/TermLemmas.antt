@@ -23,7 +23,7 @@ ceil_below x y h = let e = div-add-mod' x y in let r : x % y < y = mod-lt x h in
     ceil_cases x y d (suc r) e l = let one : min 1 (suc r) ≡ 1 = omega arith in rw one (omega arith)
 
 -- the divisor of a term is positive
-pub divisor_positive : (q k : ℕ) → 0 < q → 0 < q * suc k
+divisor_positive : (q k : ℕ) → 0 < q → 0 < q * suc k
 divisor_positive q k h = mul-pos h (omega arith)
 
 -- ---- one step

@@ -41,7 +41,7 @@ amount_is_one figure p a b e f =
     hundredth_is_one a b ((pos (100 * figure) -ℤ pos p.last) *ℤ pos (multiplier_of p.contract) *ℤ p.quantity) e f
 
 -- a number as the code holds it, in 128 bits
-abbrev cast : ℤ → ℤ
+abbrev pub cast : ℤ → ℤ
 cast z = to_z w128 (of_z w128 z)
 
 -- the products that the code makes: a gain below 2 ^ 32, at most ten cents and at most a million contracts have room in 128 bits

@@ -21,7 +21,8 @@ rows_positive price x events range k h =
     let row = in_map (λ (r : StrikeRow). r.strike) rows k (in_from_contains (strikes rows) k h) in
     let strike = in_map (row_of price x) (listed_strikes x events) row.0 row.1 in
     let same : strike.0 ≡ k = ap (λ (r : StrikeRow). r.strike) strike.2 ∙ row.2 in
-    let some : 1 ≤ strike.0 = (strike_in_range x events strike.0 range (in_filter (is_strike_listed x events) (strikes_of x events) strike.0 strike.1).0).0 in
+    let in_range = strike_in_range x events strike.0 range (in_filter (is_strike_listed x events) (strikes_of x events) strike.0 strike.1).0 in
+    let some = in_range.0 in
     omega arith
 
 -- ---- the entries of a strip
