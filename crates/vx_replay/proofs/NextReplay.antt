@@ -8,7 +8,7 @@ use Rattle.vx_feed.specs.declared.events.Event.{Event}
 use Rattle.vx_feed.specs.Listed.{declared_expiry, declared_expiries}
 use Rattle.vx_feed.proofs.LawfulLists.{lawful_with_one_more}
 use Rattle.vx_feed.proofs.NextEvent.{next_declared}
-use Rattle.vx_book.specs.StandsFor.{Applies, ReplayStandsStill as BookStandsStill}
+use Rattle.vx_book.specs.StandsFor.{Applies, StandsStill}
 use Rattle.vx_replay.specs.declared.replay.Replay.{Replay}
 use Rattle.vx_replay.specs.StandsFor.{Steps, ReplayStandsStill}
 use Rattle.vx_replay.specs.StripsAfter.{Holding}
@@ -39,7 +39,7 @@ module _ (old new : Replay) (e : Event) (applies : Applies old.book e new.book) 
       }
 
 -- a replay whose book stands for the same, with as many strips, stands for the same
-pub replay_stands_still : (old new : Replay) → BookStandsStill old.book new.book → length new.kept.items ≡ length old.kept.items → ReplayStandsStill old new
+pub replay_stands_still : (old new : Replay) → StandsStill old.book new.book → length new.kept.items ≡ length old.kept.items → ReplayStandsStill old new
 replay_stands_still old new still same events h = record { lawful = h.lawful; book = still events h.book; strips = same ∙ h.strips }
 
 -- what holds whatever happens holds after a refusal
