@@ -129,7 +129,8 @@ behind_first xs = take (length xs - 1) (drop 1 xs)
 behind_is : (x : ℕ) (xs : List ℕ) → behind_first (x ∷ xs) ≡ xs
 behind_is x xs = let e : suc (length xs) - 1 ≡ length xs = omega arith in rw e (take_all (length xs) xs (omega arith))
 
-dot_is : (x : ℕ) → x ≡ 46 → (is_dot x ≡ true) × (is_digit x ≡ false)
+-- the byte of a dot is a dot, and no digit
+pub dot_is : (x : ℕ) → x ≡ 46 → (is_dot x ≡ true) × (is_digit x ≡ false)
 dot_is x e = rw e (refl, refl)
 
 -- at a dot what may follow is digits
@@ -312,7 +313,8 @@ pub magnitude_of_other : (xs : List ℕ) (bits n : ℕ) → n ≡ prefix_len is_
 magnitude_of_other [] bits n e h = absurd (omega arith)
 magnitude_of_other (x ∷ xs) bits n e h = let no = not_digits_from_run (x ∷ xs) (omega arith) in rw no
 
-run_is_all : (xs : List ℕ) (n : ℕ) → n ≡ prefix_len is_digit xs → length xs ≤ n → (prefix_len is_digit xs ≡ length xs) × (take n xs ≡ xs)
+-- a run that goes to the end of a text is the text
+pub run_is_all : (xs : List ℕ) (n : ℕ) → n ≡ prefix_len is_digit xs → length xs ≤ n → (prefix_len is_digit xs ≡ length xs) × (take n xs ≡ xs)
 run_is_all xs n e h = let fits : prefix_len is_digit xs ≤ length xs = prefix_len-le-length is_digit xs in (omega arith, take_all n xs h)
 
 -- from a value of too many bits it answers so

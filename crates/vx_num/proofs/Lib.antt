@@ -2,6 +2,7 @@
 pub mod Differences
 pub mod Texts
 pub mod Decimals
+mod AllPlaces
 pub mod ReadBack
 pub mod Whole
 pub mod WrittenLemmas

@@ -1,7 +1,7 @@
 //! Reading numbers from their texts, in one pass and without memory.
 
-ghost use Rattle.std.specs.Prelude.{◌≡◌, ◌+◌, ◌*◌, ◌^◌, ◌<◌, ◌≤◌, IfOk, IfSome, filter, length, if◌then◌else◌, is_some, min, nat_abs, nat_le, neg_ℤ, pos, take, ◌≤ℤ◌};
-ghost use Rattle.std.specs.List.{prefix_len};
+ghost use Rattle.std.specs.Prelude.{◌≡◌, ℕ, true, ◌+◌, ◌*◌, ◌^◌, ◌<◌, ◌≤◌, IfOk, IfSome, filter, length, if◌then◌else◌, is_some, min, nat_abs, nat_le, neg_ℤ, pos, take, ◌≤ℤ◌};
+ghost use Rattle.std.specs.List.{list_all, prefix_len};
 ghost use Rattle.vx_num.specs.Decimal.{decimal_of, digits_worth, is_decimal, is_decimal_rest, is_digit, magnitude_of, places_of, signed_decimal_of, wide_of};
 
 use crate::fault::DecimalFault;
@@ -18,6 +18,14 @@ const ROOM: u128 = 1 << 124;
 const SHORT_LEN: usize = 9;
 
 const SHORT_START: u64 = 1_000_000_000;
+
+/// The digits at the front of a short text.
+#[derive(Drop)]
+struct ShortRun {
+    /// What they are worth behind the digits before.
+    value: u64,
+    len: usize,
+}
 
 /// The digits at the front of a text.
 #[derive(Drop)]
@@ -39,7 +47,8 @@ fn with_digit(value: u128, digit: u8) -> u128
 }
 
 /// Reads the digits at the front of a short text, which stand behind few digits worth `start`.
-fn short_run(text: &[u8], start: u64) -> DigitRun
+#[inline(always)]
+fn short_run(text: &[u8], start: u64) -> ShortRun
     requires short { length text.now ≤ SHORT_LEN }
     requires few { start < SHORT_START }
     ensures len { result.len ≡ prefix_len is_digit text.now }
@@ -49,14 +58,11 @@ fn short_run(text: &[u8], start: u64) -> DigitRun
     for (len, &byte) in text.iter().enumerate() {
         match byte {
             b'0'..=b'9' => value = 10 * value + u64::from(byte - b'0'),
-            _ => {
-                let value = u128::from(value);
-                return DigitRun { value, len };
-            }
+            _ => return ShortRun { value, len },
         }
     }
-    DigitRun {
-        value: u128::from(value),
+    ShortRun {
+        value,
         len: text.len(),
     }
 }
@@ -85,7 +91,11 @@ fn digit_run(text: &[u8], start: u128) -> DigitRun
     ensures value { min result.value LARGE ≡ min (start * 10 ^ result.len + digits_worth (take result.len text.now)) LARGE }
 {
     if text.len() <= SHORT_LEN && start < SHORT_START as u128 {
-        return short_run(text, start as u64);
+        let run = short_run(text, start as u64);
+        return DigitRun {
+            value: u128::from(run.value),
+            len: run.len,
+        };
     }
     long_run(text, start)
 }
@@ -156,17 +166,41 @@ fn scaled(digits: u128, zeros: u32, max: u64) -> Option<u64>
     }
 }
 
-/// Reads a decimal, as its value times `10^places`.
-///
-/// A decimal is one digit or more, and then at most once a dot followed by one to `places` digits.
-/// Leading zeros are allowed. The answer is at most `max`.
-///
-/// # Errors
-///
-/// The first that holds of: `Empty`, there is no byte; `NotDigit`, a byte is no digit, other than a
-/// single dot with a digit on each side; `Places`, more than `places` digits stand behind the dot;
-/// `TooLarge`, the answer would be above `max`.
-pub fn read_decimal(text: &[u8], places: u32, max: u64) -> Result<u64, DecimalFault>
+/// Reads a short text of digits alone, which stand behind few digits worth `start`.
+#[inline(always)]
+fn digits_alone(text: &[u8], start: u64) -> Option<u64>
+    requires short { length text.now ≤ SHORT_LEN }
+    requires few { start < SHORT_START }
+    ensures form { IfSome result (λ _. list_all is_digit text.now ≡ true) }
+    ensures value { IfSome result (λ value. value ≡ start * 10 ^ length text.now + digits_worth text.now) }
+{
+    let run = short_run(text, start);
+    if run.len < text.len() {
+        return None;
+    }
+    Some(run.value)
+}
+
+/// Reads a short decimal that has all its places, as nearly every price does: it needs no scaling.
+#[inline(always)]
+fn with_all_places(text: &[u8], places: usize) -> Option<u64>
+    requires { places ≤ 8 }
+    ensures { IfSome result (λ value. (max : ℕ) → value ≤ max → decimal_of text.now places max ≡ Ok value) }
+{
+    if places == 0 || text.len() > SHORT_LEN || text.len() < places + 2 {
+        return None;
+    }
+    let point = text.len() - places - 1;
+    if text[point] != b'.' {
+        return None;
+    }
+    let whole = digits_alone(&text[..point], 0)?;
+    digits_alone(&text[point + 1..], whole)
+}
+
+/// Reads any decimal, as [`read_decimal`] does.
+#[inline(never)]
+fn any_decimal(text: &[u8], places: u32, max: u64) -> Result<u64, DecimalFault>
     requires { places ≤ 8 }
     ensures answer { result ≡ decimal_of text.now places max }
     ensures within { IfOk result (λ value. value ≤ max) }
@@ -182,6 +216,30 @@ pub fn read_decimal(text: &[u8], places: u32, max: u64) -> Result<u64, DecimalFa
     }
     let left_out = places - numeral.places as u32;
     scaled(numeral.digits, left_out, max).ok_or(DecimalFault::TooLarge)
+}
+
+/// Reads a decimal, as its value times `10^places`.
+///
+/// A decimal is one digit or more, and then at most once a dot followed by one to `places` digits.
+/// Leading zeros are allowed. The answer is at most `max`.
+///
+/// # Errors
+///
+/// The first that holds of: `Empty`, there is no byte; `NotDigit`, a byte is no digit, other than a
+/// single dot with a digit on each side; `Places`, more than `places` digits stand behind the dot;
+/// `TooLarge`, the answer would be above `max`.
+#[inline(always)]
+pub fn read_decimal(text: &[u8], places: u32, max: u64) -> Result<u64, DecimalFault>
+    requires { places ≤ 8 }
+    ensures answer { result ≡ decimal_of text.now places max }
+    ensures within { IfOk result (λ value. value ≤ max) }
+{
+    if let Some(value) = with_all_places(text, places as usize) {
+        if value <= max {
+            return Ok(value);
+        }
+    }
+    any_decimal(text, places, max)
 }
 
 /// Reads a decimal that may have a minus sign, as its value times `10^places`.

@@ -31,6 +31,9 @@ overflow_add-value c =
 pub returns-in_default-clause-len : goal.returns-in_default-clause-len
 returns-in_default-clause-len c = sym (prefix_len_is is_digit c.args.text.now c.loop-len.len 0 (omega arith) c.loop-len.invariant.digits (λ h. grind (arith, nat_tests)))
 
+pub returns-in_default-2-clause-len : goal.returns-in_default-2-clause-len
+returns-in_default-2-clause-len c = sym (prefix_len_is is_digit c.args.text.now c.loop-len.len 0 (omega arith) c.loop-len.invariant.digits (λ h. grind (arith, nat_tests)))
+
 pub loop-len-preserved : goal.loop-len-preserved
 loop-len-preserved c =
     let text = c.args.text.now in

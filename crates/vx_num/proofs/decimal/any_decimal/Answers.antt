@@ -5,7 +5,7 @@ use Rattle.std.specs.Option.{ok_or}
 use Rattle.vx_num.specs.declared.decimal.TheConstants.{LARGE}
 use Rattle.vx_num.specs.declared.fault.DecimalFault.TheVariants.{TooLarge}
 use Rattle.vx_num.proofs.Decimals.{decimal_of_empty, decimal_of_other, decimal_of_places, decimal_of_scaled}
-use Rattle.vx_num.proofs.decimal.read_decimal.Goals as goal
+use Rattle.vx_num.proofs.decimal.any_decimal.Goals as goal
 
 pub returns-then-is_empty-clause-answer : goal.returns-then-is_empty-clause-answer
 returns-then-is_empty-clause-answer c =
