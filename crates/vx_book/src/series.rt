@@ -31,6 +31,7 @@ pub struct Series {
 }
 
 /// What is kept of a series, where it is listed.
+#[inline(always)]
 pub fn find(series: &IndexMap<Symbol, Series>, symbol: &Symbol) -> Option<Series>
     ensures { result ≡ kept series.now symbol.now }
 {

@@ -32,6 +32,7 @@ fn read_date(text: &[u8]) -> Option<DayNo>
     read_day(text).ok()
 }
 
+#[inline(always)]
 fn read_series(text: &[u8]) -> Option<Symbol>
     ensures value { result ≡ spec.series_of_text text.now }
     ensures in_range { IfSome result IsSymbolInRange }

@@ -287,8 +287,40 @@ impl Order {
         }
     }
 
+    // The first fault of a quote, a trade or a tick of this minute after the events so far: what else
+    // it says never makes one.
+    fn timed_fault(&self, time: u16) -> Option<FeedFault>
+        ensures { (events : List Event) → StandsFor self.now events → result ≡ order.order_fault events (Event.Tick time) }
+    {
+        if self.lines == 0 {
+            return Some(FeedFault::NotFirst);
+        }
+        if self.ended {
+            return Some(FeedFault::AfterEnd);
+        }
+        if time < self.latest {
+            return Some(FeedFault::TimeBack);
+        }
+        if self.lines >= LINES_MAX {
+            return Some(FeedFault::TooMany);
+        }
+        None
+    }
+
     // The first fault of an event after the events so far.
     pub(crate) fn fault(&self, event: &Event) -> Option<FeedFault>
+        ensures { (events : List Event) → StandsFor self.now events → result ≡ order.order_fault events event.now }
+    {
+        match event {
+            Event::Quote { time, .. } | Event::Trade { time, .. } | Event::Tick { time } => {
+                self.timed_fault(*time)
+            }
+            _ => self.any_fault(event),
+        }
+    }
+
+    // The same of any event, each cause asked for in its turn.
+    fn any_fault(&self, event: &Event) -> Option<FeedFault>
         ensures { (events : List Event) → StandsFor self.now events → result ≡ order.order_fault events event.now }
     {
         if self.is_misplaced(event) {
