@@ -75,25 +75,25 @@ impl Book {
         ensures taken { OnOk result (StandsNext self.old e.now self.new) }
         ensures refused { OnErr result (StandsStill self.old self.new) }
     {
-        match *e {
+        match e {
             Event::Header { day } => {
-                self.day = Some(day);
+                self.day = Some(*day);
                 Ok(())
             }
-            Event::Expiry(expiry) => self.declare(expiry),
+            Event::Expiry(expiry) => self.declare(*expiry),
             Event::Rate { expiry, rate } => {
-                self.set_rate(expiry, rate);
+                self.set_rate(*expiry, *rate);
                 Ok(())
             }
-            Event::Series(symbol) => self.list(&symbol),
+            Event::Series(symbol) => self.list(symbol),
             Event::Quote {
                 symbol,
                 bid,
                 ask,
                 ..
-            } => self.quote(&symbol, table::quoted(bid, ask)),
-            Event::Trade { symbol, price, .. } => self.trade(&symbol, price),
-            Event::Opening { time } => self.open(time),
+            } => self.quote(symbol, table::quoted(*bid, *ask)),
+            Event::Trade { symbol, price, .. } => self.trade(symbol, *price),
+            Event::Opening { time } => self.open(*time),
             Event::Tick { .. } | Event::End { .. } => Ok(()),
         }
     }

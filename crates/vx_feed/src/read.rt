@@ -23,11 +23,13 @@ pub fn event_of_fields(fields: &Fields<'_>, seen: &Order) -> Result<Event, FeedF
     ensures lawful { (events : List Event) → StandsFor seen.now events → IfOk result (IsLawfulNext events) }
     ensures in_range { IfOk result IsInRange }
 {
-    let event = read_form(fields)?;
-    match seen.fault(&event) {
-        Some(fault) => Err(fault),
-        None => Ok(event),
+    let read = read_form(fields);
+    if let Ok(event) = &read {
+        if let Some(fault) = seen.fault(event) {
+            return Err(fault);
+        }
     }
+    read
 }
 
 /// The fault of a line that can't be split into fields: `Kind` where it is empty, `Byte` where it has a
