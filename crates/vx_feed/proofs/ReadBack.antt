@@ -1,14 +1,13 @@
 -- The line of an event is read back as the event.
-use Rattle.std.proofs.Common.{◌≡◌, refl, ap, ◌∙◌, ℕ, zero, suc, ◌+◌, ◌-◌, ◌*◌, ◌/◌, ◌%◌, ◌^◌, ◌<◌, ◌≤◌, Bool, true, false, not, ◌&&◌, ◌==◌, nat_le, ℤ, pos, negsuc, List, [], ◌∷◌, ◌++◌, length, slice_index, Some, None, Ok, arith}
+use Rattle.std.proofs.Common.{◌≡◌, refl, ap, ◌∙◌, ℕ, zero, suc, ◌+◌, ◌-◌, ◌*◌, ◌/◌, ◌%◌, ◌^◌, ◌<◌, ◌≤◌, Bool, true, false, not, ◌&&◌, ◌==◌, nat_le, ℤ, pos, negsuc, List, [], ◌∷◌, ◌++◌, length, Some, None, Ok, arith}
 use Rattle.std.specs.List.{list_all, All}
 use Rattle.std.specs.Result.{result_ok}
-use Rattle.std.proofs.lemmas.Int.{ints}
 use Rattle.std.proofs.lemmas.Bool.Decides.{nat_tests}
 use Rattle.std.proofs.lemmas.List.{append-nil}
 use Rattle.std.proofs.lemmas.List.Folds.{list_all-append}
 use Rattle.std.proofs.lemmas.List.Elements.{All-nil, All-cons}
 use Rattle.std.proofs.lemmas.List.Splits.{slice_split_none, slice_split_at}
-use Rattle.vx_num.specs.Decimal.{decimal_of, is_digit}
+use Rattle.vx_num.specs.Decimal.{is_digit}
 use Rattle.vx_num.specs.Written.{natural_text, last_digits, decimal_text}
 use Rattle.vx_num.proofs.ReadBack.{natural_text_all, last_digits_all, read_back_decimal, read_back_signed, decimal_text_whole, decimal_text_parts}
 use Rattle.vx_clock.specs.declared.days.DayNo.{DayNo}

@@ -1,7 +1,6 @@
 -- What a line says by itself (the forms are this project's own). A line's fields are the pieces
 -- between its commas, counted from 1; the first names the kind of line.
-use Rattle.std.specs.Prelude.{ℕ, ◌+◌, ◌-◌, ◌*◌, Bool, true, false, ◌&&◌, ◌==◌, nat_le, ℤ, unsigned_abs, List, [], ◌∷◌, length, take, drop, codes, bytes_eq, slice_index, slice_index_or, slice_range, Option, Some, None, Result, Ok, Err, if◌then◌else◌}
-use Rattle.std.specs.Option.{option_map}
+use Rattle.std.specs.Prelude.{ℕ, ◌-◌, Bool, true, false, ◌==◌, nat_le, ℤ, unsigned_abs, List, [], ◌∷◌, length, codes, bytes_eq, slice_index_or, Option, Some, None, Result, Ok, Err, if◌then◌else◌}
 use Rattle.std.specs.Result.{result_ok}
 use Rattle.vx_num.specs.Decimal.{decimal_of, signed_decimal_of}
 use Rattle.vx_clock.specs.Clock.{time_of_text}

@@ -1,6 +1,6 @@
 //! What a line says by itself.
 
-ghost use Rattle.std.specs.Prelude.{◌≡◌, ◌≤◌, length, IfOk, IfSome};
+ghost use Rattle.std.specs.Prelude.{◌≡◌, ◌≤◌, Some, length, true, IfOk, IfSome};
 ghost use Rattle.vx_clock.specs.Day.{IsDayInRange};
 ghost use Rattle.vx_symbol.specs.Rows.{IsRateInRange};
 ghost use Rattle.vx_symbol.specs.Symbol.{IsSymbolInRange};
@@ -187,13 +187,24 @@ fn read_end(fields: &Fields<'_>) -> Result<Event, FeedFault>
     Ok(Event::End { count })
 }
 
+// Whether a first field names a quote, as nearly every line's does.
+fn is_quote(text: &[u8]) -> bool
+    ensures { result ≡ true → spec.kind_of_text text.now ≡ Some kind.Quote }
+{
+    text == b"Q".as_slice()
+}
+
 /// The event that a line's fields say, or the first fault of their form.
+#[inline(never)]
 pub(crate) fn read_form(fields: &Fields<'_>) -> Result<Event, FeedFault>
     ensures value { result ≡ spec.event_of_fields fields.now }
     ensures in_range { IfOk result IsInRange }
 {
     if fields.is_empty() {
         return Err(FeedFault::Kind);
+    }
+    if fields.len() == Kind::Quote.field_count() && is_quote(fields.field(0)) {
+        return read_quote(fields);
     }
     let kind = kind_of(fields.field(0)).ok_or(FeedFault::Kind)?;
     if fields.len() != kind.field_count() {

@@ -1,6 +1,5 @@
 use Rattle.std.proofs.Common.{◌∙◌, ap, sym, inr}
 use Rattle.vx_feed.specs.Feed.{next_event}
-use Rattle.vx_feed.proofs.OrderLemmas.{on_ok}
 use Rattle.vx_feed.proofs.ReadLemmas.{event_of_plain, fields_of_one}
 use Rattle.vx_feed.proofs.read.read_event.Goals as goal
 

@@ -1,6 +1,4 @@
-use Rattle.std.proofs.Common.{◌∙◌, refl, sym}
-use Rattle.std.specs.Result.{is_ok}
-use Rattle.std.proofs.lemmas.Bool.{cond-true}
+use Rattle.std.proofs.Common.{refl}
 use Rattle.vx_feed.proofs.OrderLemmas.{takes_expiry}
 use Rattle.vx_feed.proofs.order.Order.declare.Goals as goal
 

@@ -1,11 +1,11 @@
-use Rattle.std.proofs.Common.{◌≡◌, ◌∙◌, ap, sym, refl, true, false, map, length, arith, rules}
+use Rattle.std.proofs.Common.{◌≡◌, ◌∙◌, ap, refl, true, false, map, length, arith, rules}
 use Rattle.std.specs.HashSet.{contains}
 use Rattle.vx_clock.specs.declared.terms.Expiry.{Expiry}
 use Rattle.vx_feed.specs.Same.{is_same_series}
 use Rattle.vx_feed.specs.Listed.{expiry_of, other_side}
 use Rattle.vx_feed.specs.Noted.{kept_expiry, kept_strikes, with_one_more}
 use Rattle.vx_feed.proofs.KeptLemmas.{expiries-one_more, written_back}
-use Rattle.vx_feed.proofs.OrderLemmas.{on_ok, strikes_of_listed, strikes_of_new, takes_series}
+use Rattle.vx_feed.proofs.OrderLemmas.{strikes_of_listed, strikes_of_new, takes_series}
 use Rattle.vx_feed.proofs.SameLemmas.{inserted_by_parts, series_by_parts}
 use Rattle.vx_feed.proofs.order.Order.list.Goals as goal
 
