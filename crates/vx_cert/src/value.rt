@@ -13,6 +13,7 @@ ghost use Rattle.vx_cert.specs.Written.{ends_data, pair_data, row_data, rows_dat
 
 use crate::certificate::{Ends, Pair};
 use crate::form::TaylorTerms;
+use crate::limits::TAYLOR_TERMS;
 use crate::rows::{CertRow, CertRows};
 use serde_json::{Map, Value};
 use std::alloc::Global;
@@ -80,14 +81,18 @@ fn wide(alloc: Global, number: i128) -> Result<Value, NoMemory>
 {
     let mut digits = Vec::new(alloc);
     write_wide(alloc, &mut digits, number)?;
-    text(alloc, digits.as_slice())
+    // The digits become the text where they stand, with no copy.
+    match String::from_utf8(digits) {
+        Ok(text) => Ok(Value::String(text)),
+        Err(_) => unreachable!(),
+    }
 }
 
 /// Two wide numbers.
 pub fn two_wide(alloc: Global, lo: i128, hi: i128) -> Result<Value, NoMemory>
     ensures { IfOk result (λ v. view v ≡ two_wide lo hi) }
 {
-    let mut values = Vec::new(alloc);
+    let mut values = Vec::with_capacity(alloc, 2)?;
     push(&mut values, wide(alloc, lo)?)?;
     push(&mut values, wide(alloc, hi)?)?;
     Ok(Value::Array(values))
@@ -113,7 +118,7 @@ pub fn pair(alloc: Global, pair: Pair) -> Result<Value, NoMemory>
     ensures value { IfOk result (λ v. view v ≡ pair_data pair) }
     ensures read_back { OnOk result (pair_of (pair_data pair) ≡ Some pair) }
 {
-    let mut values = Vec::new(alloc);
+    let mut values = Vec::with_capacity(alloc, 2)?;
     push(&mut values, Value::from(pair.strike))?;
     push(&mut values, Value::from(pair.d))?;
     Ok(Value::Array(values))
@@ -125,7 +130,7 @@ fn taylor_terms(alloc: Global, terms: &TaylorTerms) -> Result<Value, NoMemory>
     ensures read_back { OnOk result
         (option_and_then taylor_named (list_of (taylor_data terms.now)) ≡ Some terms.now) }
 {
-    let mut values = Vec::new(alloc);
+    let mut values = Vec::with_capacity(alloc, TAYLOR_TERMS)?;
     for term in terms {
         let value = wide(alloc, i128::from(*term))?;
         push(&mut values, value)?;
@@ -138,7 +143,7 @@ pub fn taylor(alloc: Global, low: &TaylorTerms, high: &TaylorTerms) -> Result<Va
     ensures value { IfOk result (λ v. view v ≡ taylor_pair_data low.now high.now) }
     ensures read_back { OnOk result (taylor_of (taylor_pair_data low.now high.now) ≡ Some (low.now, high.now)) }
 {
-    let mut values = Vec::new(alloc);
+    let mut values = Vec::with_capacity(alloc, 2)?;
     push(&mut values, taylor_terms(alloc, low)?)?;
     push(&mut values, taylor_terms(alloc, high)?)?;
     Ok(Value::Array(values))
@@ -157,7 +162,7 @@ fn row(alloc: Global, row: CertRow) -> Result<Value, NoMemory>
     ensures value { IfOk result (λ v. view v ≡ row_data row) }
     ensures read_back { OnOk result (row_of (row_data row) ≡ Some row) }
 {
-    let mut values = Vec::new(alloc);
+    let mut values = Vec::with_capacity(alloc, 5)?;
     push(&mut values, Value::from(row.strike))?;
     push(&mut values, Value::from(row.d))?;
     push(&mut values, Value::from(row.q4))?;
@@ -171,8 +176,9 @@ pub fn rows(alloc: Global, rows: &CertRows) -> Result<Value, NoMemory>
     ensures value { IfOk result (λ v. view v ≡ rows_data rows.now) }
     ensures read_back { OnOk result (all_read row_of (map row_data rows.now) ≡ Some rows.now) }
 {
-    let mut values = Vec::new(alloc);
-    for item in rows.items() {
+    let items = rows.items();
+    let mut values = Vec::with_capacity(alloc, items.len())?;
+    for item in items {
         let value = row(alloc, *item)?;
         push(&mut values, value)?;
     }
