@@ -1,12 +1,15 @@
 -- The texts of a certificate's fields are ASCII, and so UTF-8.
-use Rattle.std.proofs.Common.{◌≡◌, ℕ, suc, ◌+◌, ◌/◌, ◌%◌, ◌<◌, ◌≤◌, Bool, true, false, List, [], ◌∷◌, ◌++◌, ℤ, pos, negsuc, refl, arith}
+use Rattle.std.proofs.Common.{◌≡◌, ℕ, zero, suc, ◌+◌, ◌/◌, ◌%◌, ◌^◌, ◌<◌, ◌≤◌, Bool, true, false, List, [], ◌∷◌, ◌++◌, ℤ, pos, negsuc, map, ◌==◌, refl, sym, ◌∙◌, arith}
 use Rattle.std.specs.Prelude.{IsUtf8, IsAscii}
+use Rattle.std.specs.Fmt.{decimal}
+use Rattle.std.specs.Int.Digits.{digits_of}
 use Rattle.std.specs.List.{list_all}
+use Rattle.std.proofs.lemmas.Fmt.{decimal_digit, decimal-digits_of}
 use Rattle.std.proofs.lemmas.Str.{IsUtf8-from_ascii}
 use Rattle.std.proofs.lemmas.Str.Ascii.{IsAscii-nil, IsAscii-cons}
 use Rattle.std.proofs.lemmas.Bool.Decides.{nat_tests}
 use Rattle.vx_num.specs.Decimal.{is_digit}
-use Rattle.vx_num.specs.Written.{wide_text, natural_text}
+use Rattle.vx_num.specs.Written.{digit_byte, wide_text, natural_text}
 use Rattle.vx_num.proofs.ReadBack.{natural_text_all}
 use Rattle.vx_clock.specs.Clock.{clock_text}
 use Rattle.vx_clock.specs.DayText.{day_text, digit_at, two_digits, year_of, month_of, day_in_month}
@@ -25,6 +28,17 @@ pub wide_text_utf8 : (z : ℤ) → IsUtf8 (wide_text z)
 unfolding wide_text
 wide_text_utf8 (pos n) = IsUtf8-from_ascii _ (digits_ascii (natural_text n) (natural_text_all n))
 wide_text_utf8 (negsuc n) = IsUtf8-from_ascii _ (IsAscii-cons 45 _ (omega arith) (digits_ascii (natural_text (suc n)) (natural_text_all (suc n))))
+
+-- the text of a number above 0 is its digits
+above_zero : (n : ℕ) → 0 < n → natural_text n ≡ map digit_byte (digits_of 10 n)
+unfolding natural_text
+above_zero n p = let some : (n == 0) ≡ false = grind (arith, nat_tests) in rw some
+
+-- the text of a number of 64 bits is what the kit's `itoa` writes
+pub decimal_is_wide_text : (n : ℕ) → n < 2 ^ 64 → decimal n ≡ wide_text (pos n)
+unfolding wide_text natural_text
+decimal_is_wide_text zero h = decimal_digit 0 (omega arith)
+decimal_is_wide_text (suc n) h = decimal-digits_of (suc n) (omega arith) h ∙ sym (above_zero (suc n) (omega arith))
 
 five : (a b c d e : ℕ) → a < 128 → b < 128 → c < 128 → d < 128 → e < 128 → (rest : List ℕ) → IsAscii rest → IsAscii (a ∷ b ∷ c ∷ d ∷ e ∷ rest)
 five a b c d e ha hb hc hd he rest h =

@@ -1,6 +1,6 @@
 //! The values of JSON that a certificate's fields are written as.
 
-ghost use Rattle.std.specs.Prelude.{◌≡◌, ◌≤◌, [], ◌∷◌, ◌++◌, IfOk, IsUtf8, map, OnOk, option_and_then, Some};
+ghost use Rattle.std.specs.Prelude.{◌≡◌, ◌≤◌, [], ◌∷◌, ◌++◌, IfOk, IsUtf8, map, OnOk, option_and_then, pos, Some};
 ghost use Rattle.serde_json.specs.Data.{string, put as with_member};
 ghost use Rattle.serde_json.specs.View.{view, members_view};
 ghost use Rattle.vx_clock.specs.Clock.{clock_text};
@@ -15,6 +15,7 @@ use crate::certificate::{Ends, Pair};
 use crate::form::TaylorTerms;
 use crate::limits::TAYLOR_TERMS;
 use crate::rows::{CertRow, CertRows};
+use itoa::Buffer;
 use serde_json::{Map, Value};
 use std::alloc::Global;
 use vx_clock::{DayNo, Root, write_clock, write_day};
@@ -88,6 +89,15 @@ fn wide(alloc: Global, number: i128) -> Result<Value, NoMemory>
     }
 }
 
+/// A wide number from 0 to `2^64 - 1`, as a text: most numbers of a certificate.
+#[tactic(auto, using(crate::proofs::WrittenTexts::decimal_is_wide_text))]
+fn part(alloc: Global, number: u64) -> Result<Value, NoMemory>
+    ensures { IfOk result (λ v. view v ≡ wide_number (pos number)) }
+{
+    let mut digits = Buffer::new();
+    name(alloc, digits.format(number))
+}
+
 /// Two wide numbers.
 pub fn two_wide(alloc: Global, lo: i128, hi: i128) -> Result<Value, NoMemory>
     ensures { IfOk result (λ v. view v ≡ two_wide lo hi) }
@@ -132,7 +142,7 @@ fn taylor_terms(alloc: Global, terms: &TaylorTerms) -> Result<Value, NoMemory>
 {
     let mut values = Vec::with_capacity(alloc, TAYLOR_TERMS)?;
     for term in terms {
-        let value = wide(alloc, i128::from(*term))?;
+        let value = part(alloc, *term)?;
         push(&mut values, value)?;
     }
     Ok(Value::Array(values))
@@ -166,8 +176,8 @@ fn row(alloc: Global, row: CertRow) -> Result<Value, NoMemory>
     push(&mut values, Value::from(row.strike))?;
     push(&mut values, Value::from(row.d))?;
     push(&mut values, Value::from(row.q4))?;
-    push(&mut values, wide(alloc, i128::from(row.lo))?)?;
-    push(&mut values, wide(alloc, i128::from(row.hi))?)?;
+    push(&mut values, part(alloc, row.lo)?)?;
+    push(&mut values, part(alloc, row.hi)?)?;
     Ok(Value::Array(values))
 }
 
