@@ -1,6 +1,6 @@
 //! Writing a certificate as a line of JSON.
 
-ghost use Rattle.std.specs.Prelude.{◌≡◌, ◌≤◌, [], ◌∷◌, ◌++◌, false, IfOk, length, Ok, OnErr, OnOk, string_bytes};
+ghost use Rattle.std.specs.Prelude.{◌≡◌, ◌≤◌, [], ◌∷◌, ◌++◌, false, IfOk, length, Ok, OnErr, OnOk};
 ghost use Rattle.std.specs.List.{All};
 ghost use Rattle.serde_json.specs.Data.{depth};
 ghost use Rattle.serde_json.specs.Read.{max_depth};
@@ -40,14 +40,14 @@ pub fn write_cert(alloc: Global, c: &Certificate, out: &mut Vec<u8>) -> Result<(
     ensures short { OnOk result (length (certificate_line c.now) ≤ WRITTEN_LEN_MAX) }
 {
     let line = line_of(alloc, c)?;
-    out.extend_from_slice(line.as_bytes())?;
+    out.extend_from_slice(line.as_slice())?;
     Ok(())
 }
 
 /// The line of a certificate, with its LF.
-fn line_of(alloc: Global, c: &Certificate) -> Result<String, NoMemory>
+fn line_of(alloc: Global, c: &Certificate) -> Result<Vec<u8>, NoMemory>
     requires { IsCertificateInRange c.now }
-    ensures line { IfOk result (λ line. string_bytes line ≡ certificate_text c.now) }
+    ensures line { IfOk result (λ line. line.items ≡ certificate_text c.now) }
     ensures value { OnOk result (IsValueOf (certificate_line c.now) (certificate_data c.now)) }
     ensures read_back { OnOk result (IsReadBack c.now) }
 {
@@ -56,23 +56,25 @@ fn line_of(alloc: Global, c: &Certificate) -> Result<String, NoMemory>
     ended(text)
 }
 
-fn text_of(alloc: Global, value: &Value) -> Result<String, NoMemory>
+/// The text of a value of JSON. `serde_json` proves that these bytes are UTF-8, so that nothing tests it here.
+fn text_of(alloc: Global, value: &Value) -> Result<Vec<u8>, NoMemory>
     requires { has_float (view value.now) ≡ false }
-    ensures text { IfOk result (λ text. string_bytes text ≡ compact_text (view value.now)) }
+    ensures text { IfOk result (λ text. text.items ≡ compact_text (view value.now)) }
     ensures value { IfOk result (λ text. depth (view value.now) ≤ max_depth
-        → IsValueOf (string_bytes text) (view value.now)) }
+        → IsValueOf text.items (view value.now)) }
 {
-    match value.to_string(alloc) {
+    match value.to_vec(alloc) {
         Ok(text) => Ok(text),
         Err(_) => Err(NoMemory),
     }
 }
 
-fn ended(text: String) -> Result<String, NoMemory>
-    ensures { IfOk result (λ line. string_bytes line ≡ string_bytes text ++ 10 ∷ []) }
+/// A text with LF behind it.
+fn ended(text: Vec<u8>) -> Result<Vec<u8>, NoMemory>
+    ensures { IfOk result (λ line. line.items ≡ text.items ++ 10 ∷ []) }
 {
     let mut line = text;
-    line.push('\n')?;
+    line.push(b'\n')?;
     Ok(line)
 }
 

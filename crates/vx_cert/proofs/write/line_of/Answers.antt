@@ -1,4 +1,4 @@
-use Rattle.std.proofs.Common.{ap, ◌∙◌, string_bytes}
+use Rattle.std.proofs.Common.{ap, ◌∙◌}
 use Rattle.serde_json.specs.View.{view}
 use Rattle.serde_json.specs.Written.{has_float}
 use Rattle.vx_cert.proofs.WrittenData.{certificate_has_no_float, on_ok, valued}
@@ -9,7 +9,7 @@ text_of-requires c = ap has_float c.in_ok-value.ensures.value ∙ certificate_ha
 
 pub returns-clause-value : goal.returns-clause-value
 returns-clause-value c =
-    on_ok c.ended.result (valued c.args.c.now (string_bytes c.in_ok-text.text) (view c.in_ok-value.value)
+    on_ok c.ended.result (valued c.args.c.now c.in_ok-text.text.items (view c.in_ok-value.value)
     c.in_ok-value.ensures.value c.in_ok-text.ensures.text c.in_ok-text.ensures.value)
 
 pub returns-clause-read_back : goal.returns-clause-read_back
