@@ -16,7 +16,8 @@ same None = refl
 same (Some rest) = refl
 
 -- what is left begins with the next value
-next : {A B : Type 0} (reading : A → Option B) (xs : List A) (i : ℕ) (d : A) (o : Option B) → i < length xs → reading (get_or xs i d) ≡ o → all_read reading (drop i xs) ≡ both (λ said others. said ∷ others) o (all_read reading (drop (suc i) xs))
+next : {A B : Type 0} (reading : A → Option B) (xs : List A) (i : ℕ) (d : A) (o : Option B) → i < length xs → reading (get_or xs i d) ≡ o
+    → all_read reading (drop i xs) ≡ both (λ said others. said ∷ others) o (all_read reading (drop (suc i) xs))
 next reading xs i d o h r = ap (all_read reading) (drop-cons xs i d h) ∙ ap (λ p. both (λ said others. said ∷ others) p (all_read reading (drop (suc i) xs))) r
 
 -- nothing was read

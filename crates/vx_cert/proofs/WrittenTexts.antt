@@ -30,15 +30,15 @@ wide_text_utf8 (pos n) = IsUtf8-from_ascii _ (digits_ascii (natural_text n) (nat
 wide_text_utf8 (negsuc n) = IsUtf8-from_ascii _ (IsAscii-cons 45 _ (omega arith) (digits_ascii (natural_text (suc n)) (natural_text_all (suc n))))
 
 -- the text of a number above 0 is its digits
-above_zero : (n : ℕ) → 0 < n → natural_text n ≡ map digit_byte (digits_of 10 n)
+text_above_zero : (n : ℕ) → 0 < n → natural_text n ≡ map digit_byte (digits_of 10 n)
 unfolding natural_text
-above_zero n p = let some : (n == 0) ≡ false = grind (arith, nat_tests) in rw some
+text_above_zero n p = let some : (n == 0) ≡ false = grind (arith, nat_tests) in rw some
 
 -- the text of a number of 64 bits is what the kit's `itoa` writes
 pub decimal_is_wide_text : (n : ℕ) → n < 2 ^ 64 → decimal n ≡ wide_text (pos n)
 unfolding wide_text natural_text
 decimal_is_wide_text zero h = decimal_digit 0 (omega arith)
-decimal_is_wide_text (suc n) h = decimal-digits_of (suc n) (omega arith) h ∙ sym (above_zero (suc n) (omega arith))
+decimal_is_wide_text (suc n) h = decimal-digits_of (suc n) (omega arith) h ∙ sym (text_above_zero (suc n) (omega arith))
 
 five : (a b c d e : ℕ) → a < 128 → b < 128 → c < 128 → d < 128 → e < 128 → (rest : List ℕ) → IsAscii rest → IsAscii (a ∷ b ∷ c ∷ d ∷ e ∷ rest)
 five a b c d e ha hb hc hd he rest h =

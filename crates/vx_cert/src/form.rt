@@ -223,7 +223,7 @@ pub fn taylor(value: &Value) -> Option<(TaylorTerms, TaylorTerms)>
 fn all_rows(alloc: Global, values: &[Value]) -> Result<Option<CertRows>, NoMemory>
     ensures { IfOk result (λ rows. rows ≡ all_read row_of (map view values.now)) }
 {
-    let mut rows = CertRows::new(alloc);
+    let mut rows = CertRows::with_capacity(alloc, values.len())?;
     for value in values {
         match row(value) {
             Some(row) => rows.push(row)?,

@@ -1,6 +1,6 @@
 //! The rows of a certificate's strip.
 
-ghost use Rattle.std.specs.Prelude.{◌≡◌, List, [], ◌∷◌, ◌++◌, OnOk, OnErr};
+ghost use Rattle.std.specs.Prelude.{◌≡◌, List, [], ◌∷◌, ◌++◌, IfOk, OnOk, OnErr};
 
 use std::alloc::Global;
 use std::marker::Model;
@@ -44,6 +44,15 @@ impl CertRows {
         CertRows {
             list: Vec::new(alloc),
         }
+    }
+
+    /// The empty list with room for so many rows.
+    pub(crate) fn with_capacity(alloc: Global, count: usize) -> Result<CertRows, NoMemory>
+        ensures { IfOk result (λ rows. rows ≡ []) }
+    {
+        Ok(CertRows {
+            list: Vec::with_capacity(alloc, count)?,
+        })
     }
 
     /// Puts a row last. After a refusal the list is unchanged.

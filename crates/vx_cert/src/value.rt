@@ -27,7 +27,7 @@ fn text(alloc: Global, bytes: &[u8]) -> Result<Value, NoMemory>
     ensures { IfOk result (λ v. view v ≡ string bytes.now) }
 {
     match str::from_utf8(bytes) {
-        Ok(text) => Value::try_from_str(alloc, text).map_err(|_| NoMemory),
+        Ok(text) => name(alloc, text),
         Err(_) => unreachable!(),
     }
 }
@@ -42,14 +42,15 @@ pub fn field(
     ensures { OnOk result (members_view fields.new.entries
         ≡ with_member key.now (view value) (members_view fields.old.entries)) }
 {
-    serde_json::put(fields, alloc, key, value).map_err(|_| NoMemory)
+    serde_json::put(fields, alloc, key, value)?;
+    Ok(())
 }
 
 /// A name.
 pub fn name(alloc: Global, text: &str) -> Result<Value, NoMemory>
     ensures { IfOk result (λ v. view v ≡ string text.now) }
 {
-    Value::try_from_str(alloc, text).map_err(|_| NoMemory)
+    Ok(Value::try_from_str(alloc, text)?)
 }
 
 /// `SPX` or `SPXW`.

@@ -63,10 +63,7 @@ fn text_of(alloc: Global, value: &Value) -> Result<Vec<u8>, NoMemory>
     ensures value { IfOk result (λ text. depth (view value.now) ≤ max_depth
         → IsValueOf text.items (view value.now)) }
 {
-    match value.to_vec(alloc) {
-        Ok(text) => Ok(text),
-        Err(_) => Err(NoMemory),
-    }
+    Ok(value.to_vec(alloc)?)
 }
 
 /// A text with LF behind it.

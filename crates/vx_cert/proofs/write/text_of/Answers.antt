@@ -1,4 +1,4 @@
 use Rattle.vx_cert.proofs.write.text_of.Goals as goal
 
-pub returns-in-Ok-clause-value : goal.returns-in-Ok-clause-value
-returns-in-Ok-clause-value c = λ deep. (c.in-Ok.ensures.utf8, c.in-Ok.ensures.reads_back deep)
+pub returns-clause-value : goal.returns-clause-value
+returns-clause-value c = λ deep. (c.in_ok-to_vec.ensures.utf8, c.in_ok-to_vec.ensures.reads_back deep)
