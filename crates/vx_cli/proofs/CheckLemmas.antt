@@ -1,29 +1,27 @@
 -- A run of `check` over two files.
-use Rattle.std.proofs.Common.{◌≡◌, ◌≢◌, ◌∙◌, sym, ap, subst, refl, inr, ℕ, true, List, Option, Some, None, IfSome}
+use Rattle.std.proofs.Common.{◌≡◌, ◌≢◌, ◌∙◌, sym, ap, subst, refl, inr, ℕ, Bool, true, List, [], Option, Some, None, IfSome}
 use Rattle.std.specs.Prelude.{IsTrue}
 use Rattle.std.specs.Option.{option_map}
 use Rattle.vx_desk.specs.declared.device.Slot.{Slot}
 use Rattle.vx_desk.specs.declared.device.Slot.TheVariants.{Feed, Side, Out, Certs}
 use Rattle.vx_desk.specs.Told.{ChangesOnly, IsOpened, OnlyOutIsOpen, SameContent, Told}
-use Rattle.vx_lines.specs.TextLines.{TextLines}
-use Rattle.vx_feed.specs.Feed.{Reading, reading_of}
+use Rattle.vx_feed.specs.Feed.{reading_of}
 use Rattle.vx_reading.specs.Failures.{KeepsSlots}
-use Rattle.vx_reading.specs.FeedReading.{feed_told}
 use Rattle.vx_drivers.specs.declared.exit.Exit.{Exit}
 use Rattle.vx_drivers.specs.declared.exit.Exit.TheVariants.{Done, SaidNo, Usage, BadFeed, OpenFault, ReadFault, WriteFault, NoMemory, BadPositions, BadCerts}
 use Rattle.vx_drivers.specs.CertificateExits.{IsCertificateExit}
 use Rattle.vx_drivers.specs.CertificateRun.{certificates_of}
-use Rattle.vx_drivers.specs.CertificateSteps.{HasEnded, certs_told}
 use Rattle.vx_drivers.specs.Exits.{IsWithoutNoMemory, is_cut}
+use Rattle.vx_drivers.specs.Held.{Held, held_by}
 use Rattle.vx_drivers.specs.PositionRun.{positions_of}
-use Rattle.vx_drivers.specs.Sending.{Text}
+use Rattle.vx_drivers.specs.Sending.{Sent, Text}
 use Rattle.vx_drivers.proofs.ExitLemmas.{certs_not_feed, feed_not_side, out_not_feed, out_not_side, side_not_feed}
-use Rattle.vx_drivers.proofs.RunLemmas.{never_started}
+use Rattle.vx_drivers.proofs.RunLemmas.{both_none}
 use Rattle.vx_drivers.proofs.SendingLemmas.{sent_none}
 use Rattle.vx_cli.specs.CheckRuns.{check_rules}
 use Rattle.vx_cli.proofs.ReplayLemmas.{nothing_sent}
 use Rattle.vx_cli.proofs.SettleLemmas.{nothing_settled, settle_without}
-use Rattle.vx_cli.specs.Runs.{ChecksFiles, ChecksOpen, IsCheckExit, IsExitOf, IsMakeExit, IsReplayExit, IsSettleExit, IsOpenAs, IsShut, OpensBoth, OpensNothing, OpensToCheck, SendsFor}
+use Rattle.vx_cli.specs.Runs.{ChecksLinesRead, ChecksFiles, ChecksOpen, HasChecked, IsCheckExit, IsExitOf, IsMakeExit, IsReplayExit, IsSettleExit, IsOpenAs, IsShut, OpensBoth, OpensNothing, OpensToCheck, SendsFor}
 use Rattle.vx_cli.specs.Words.{Command, check, drill, make, replay, settle}
 
 -- ---- exits
@@ -130,16 +128,20 @@ same_is_shut old new same h = subst IsShut (sym same) h
 -- ---- a failed open
 
 module _ (feed certs : Text) (holds : List ℕ → Option (List ℕ)) (before : Slot → Told) (only : OnlyOutIsOpen before) where
-  -- nothing was read or sent
-  pub sends_nothing : (after : Slot → Told) (exit : Exit) → is_cut exit ≡ true → after Out ≡ before Out → ChecksFiles feed certs holds before after exit
-  sends_nothing after exit cut same =
-      never_started check_rules (option_map reading_of (holds feed)) (option_map certificates_of (holds certs)) (before Out) (after Out) exit cut
-      (sent_none (before Out) (after Out) same)
+  -- nothing was sent, before the certificates are open
+  pub sends_nothing : (after : Slot → Told) (exit : Exit) → is_cut exit ≡ true → after Out ≡ before Out → IsShut (after Side) → ChecksFiles feed certs holds before after exit
+  sends_nothing after exit cut same shut = record {
+    text = [];
+    sent = sent_none (before Out) (after Out) same;
+    runs = both_none check_rules (option_map reading_of (holds feed)) (option_map certificates_of (holds certs)) exit cut;
+    cut = λ is. subst (λ (b : Bool). ChecksLinesRead (record { feed = holds feed; side = holds certs }) after exit [] b) (sym shut) refl;
+  }
 
   pub feed_not_opened : (one : Slot → Told) (exit : Exit) → exit ≡ OpenFault Feed → SameContent (before Feed) (one Feed) → ChangesOnly Feed before one
       → ChecksFiles feed certs holds before one exit × OpensToCheck feed certs one exit
   feed_not_opened one exit is same others = (
-    sends_nothing one exit (ap is_cut is) (others Out out_not_feed),
+    sends_nothing one exit (ap is_cut is) (others Out out_not_feed)
+        (same_is_shut (before Side) (one Side) (others Side side_not_feed) (nothing_open before only).1),
     subst (OpensToCheck feed certs one) (sym is) (
       same.is_open ∙ (nothing_open before only).0,
       same_is_shut (before Side) (one Side) (others Side side_not_feed) (nothing_open before only).1,
@@ -151,7 +153,8 @@ module _ (feed certs : Text) (holds : List ℕ → Option (List ℕ)) (before : 
     pub certs_not_opened : (two : Slot → Told) (exit : Exit) → exit ≡ OpenFault Side → SameContent (one Side) (two Side) → ChangesOnly Side one two
         → ChecksFiles feed certs holds before two exit × OpensToCheck feed certs two exit
     certs_not_opened two exit is same others = (
-      sends_nothing two exit (ap is_cut is) (others Out (out_not_side Side refl) ∙ feed_only Out out_not_feed),
+      sends_nothing two exit (ap is_cut is) (others Out (out_not_side Side refl) ∙ feed_only Out out_not_feed)
+          (same.is_open ∙ same_is_shut (before Side) (one Side) (feed_only Side side_not_feed) (nothing_open before only).1),
       subst (OpensToCheck feed certs two) (sym is) (
         same_is_open feed (one Feed) (two Feed) (others Feed (feed_not_side Side refl)) (opened_as Feed feed (holds feed) (before Feed) (one Feed) feed_opened),
         same.is_open ∙ same_is_shut (before Side) (one Side) (feed_only Side side_not_feed) (nothing_open before only).1,
@@ -163,21 +166,26 @@ module _ (feed certs : Text) (holds : List ℕ → Option (List ℕ)) (before : 
 
     module _ (other : List ℕ → Option (List ℕ)) (same_names : other ≡ holds) (two : Slot → Told)
         (certs_opened : IsOpened Side certs (other certs) (one Side) (two Side)) (certs_only : ChangesOnly Side one two) where
-      feed_left : feed_told two ≡ option_map reading_of (holds feed)
-      feed_left = ap (λ (t : Told). option_map reading_of t.left) (certs_only Feed (feed_not_side Side refl)) ∙ ap (option_map reading_of) (feed_opened.to_read tt).0
-
-      certs_left : certs_told two ≡ option_map certificates_of (holds certs)
-      certs_left = ap (option_map certificates_of) (certs_opened.to_read tt).0 ∙ ap (λ h. option_map certificates_of (h certs)) same_names
+      -- what the two files held at first is what their names hold
+      held_left : held_by two ≡ record { feed = holds feed; side = holds certs }
+      held_left =
+          let feed_is : (two Feed).left ≡ holds feed = ap (λ (t : Told). t.left) (certs_only Feed (feed_not_side Side refl)) ∙ (feed_opened.to_read tt).0 in
+          let side_is : (two Side).left ≡ holds certs = (certs_opened.to_read tt).0 ∙ ap (λ h. h certs) same_names in
+          λ i. record { feed = feed_is i; side = side_is i }
 
       out_left : two Out ≡ before Out
       out_left = certs_only Out (out_not_side Side refl) ∙ feed_only Out out_not_feed
 
-      pub files_checked : (after : Slot → Told) (exit : Exit) → ChecksOpen two after exit
-          → ChecksFiles feed certs holds before after exit
-      files_checked after exit ended =
-          subst (λ (t : Told). HasEnded check_rules (option_map reading_of (holds feed)) (option_map certificates_of (holds certs)) t (after Out) exit) out_left
-          (subst (λ (c : Option TextLines). HasEnded check_rules (option_map reading_of (holds feed)) c (two Out) (after Out) exit) certs_left
-          (subst (λ (f : Option Reading). HasEnded check_rules f (certs_told two) (two Out) (after Out) exit) feed_left ended))
+      -- what the run over the open files sent, it sent over what the names hold
+      pub files_checked : (after : Slot → Told) (exit : Exit) → ChecksOpen two after exit → KeepsSlots two after → ChecksFiles feed certs holds before after exit
+      files_checked after exit ended keeps =
+          let open_now : (after Side).is_open ≡ true = keeps.is_open Side ∙ certs_opened.open_now in
+          subst (λ (h : Held). HasChecked h before after exit) held_left (record {
+            text = ended.text;
+            sent = subst (λ (t : Told). Sent ended.text t (after Out)) out_left ended.sent;
+            runs = ended.runs;
+            cut = λ is. subst (λ (b : Bool). ChecksLinesRead (held_by two) after exit ended.text b) (sym open_now) (ended.cut is);
+          })
 
       pub files_open : (after : Slot → Told) (exit : Exit) → IsCertificateExit exit → KeepsSlots two after → OpensToCheck feed certs after exit
       files_open after exit is keeps =
@@ -193,9 +201,9 @@ module _ (feed certs : Text) (holds : List ℕ → Option (List ℕ)) (before : 
 pub nothing_done : (command : Option Command) (holds : List ℕ → Option (List ℕ)) (told : Slot → Told) → OnlyOutIsOpen told → SendsFor command holds told told NoMemory
 nothing_done None holds told only = refl
 nothing_done (Some (replay feed certs)) holds told only =
-    nothing_sent (option_map reading_of (holds feed)) told told NoMemory refl refl (only Certs (λ e. cc)) refl (λ e. cc)
-nothing_done (Some (check feed certs)) holds told only = sends_nothing feed certs holds told only told NoMemory refl refl
+    nothing_sent (holds feed) told told NoMemory refl refl (only Certs (λ e. cc)) refl
+nothing_done (Some (check feed certs)) holds told only = sends_nothing feed certs holds told only told NoMemory refl refl (nothing_open told only).1
 nothing_done (Some (settle feed positions certs)) holds told only =
-    nothing_settled (option_map reading_of (holds feed)) (option_map positions_of (holds positions)) told told NoMemory refl refl (only Certs (λ e. cc)) refl
+    nothing_settled (record { feed = holds feed; side = holds positions }) told told NoMemory refl refl (only Certs (λ e. cc)) refl
 nothing_done (Some (make number ticks)) holds told only = refl
 nothing_done (Some (drill number ticks)) holds told only = refl

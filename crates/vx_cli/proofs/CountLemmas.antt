@@ -21,24 +21,24 @@ abbrev pub Stands : CountedReplay → List Event → Type 0
 Stands taker events = HasCountedAlong taker.replay taker.counts events
 
 -- where it is not read on, a line of it is bad or memory is wanting
-pub text_stopped : (feed : FeedReader CountedReplay) (text left : List ℕ) (stop : FeedStop)
-    → ReadsAll Stands (feed_told (told_text text)) feed (told_text left) (Err stop)
+pub text_stopped : (held : Option (List ℕ)) (feed : FeedReader CountedReplay) (text left : List ℕ) (stop : FeedStop)
+    → ReadsAll Stands held (feed_told (told_text text)) feed (told_text left) (Err stop)
     → IsStep (stop_calls stop) (told_text text) (told_text left) → CountsText text (Err stop)
-text_stopped feed text left (BadLine line why) (cause, events, at, says) step =
+text_stopped held feed text left (BadLine line why) (cause, events, at, says) step =
     ap (λ (said : Reading). said.bad) says ∙ ap (λ (n : ℕ). Some (record { line = n; cause = bad_cause why })) (sym at)
-text_stopped feed text left Device reads step = never_fails text left step
-text_stopped feed text left NoMemory reads step = tt
+text_stopped held feed text left Device reads step = never_fails text left step
+text_stopped held feed text left NoMemory reads step = tt
 
 -- no line is left, and none was bad
-abbrev IsReadWhole : FeedReader CountedReplay → List ℕ → List ℕ → Type 0
-IsReadWhole feed text left =
-    (events : List Event) × IsAt Stands (feed_told (told_text text)) events feed (told_text left) × Says (feed_told (told_text text)) (all_good events)
+abbrev IsReadWhole : Option (List ℕ) → FeedReader CountedReplay → List ℕ → List ℕ → Type 0
+IsReadWhole held feed text left =
+    (events : List Event) × IsAt Stands held (feed_told (told_text text)) events feed (told_text left) × Says (feed_told (told_text text)) (all_good events)
 
 -- where it is read to its end, its events are counted
-pub text_counted : (feed : FeedReader CountedReplay) (text left : List ℕ) (counts : AnswerCounts)
-    → ((whole : Option Reading) (events : List Event) (told : Slot → Told) → IsAt Stands whole events feed told → HasCounted events counts)
-    → IsReadWhole feed text left → CountsText text (Ok counts)
-text_counted feed text left counts taken (events, at, says) = (
+pub text_counted : (held : Option (List ℕ)) (feed : FeedReader CountedReplay) (text left : List ℕ) (counts : AnswerCounts)
+    → ((whole : Option Reading) (events : List Event) (told : Slot → Told) → IsAt Stands held whole events feed told → HasCounted events counts)
+    → IsReadWhole held feed text left → CountsText text (Ok counts)
+text_counted held feed text left counts taken (events, at, says) = (
   ap (λ (said : Reading). said.bad) says,
   subst (λ (found : List Event). HasCounted found counts) (sym (ap (λ (said : Reading). said.events) says))
       (taken (feed_told (told_text text)) events (told_text left) at),

@@ -6,7 +6,6 @@ use Rattle.std.specs.Option.{option_map}
 use Rattle.std.proofs.lemmas.List.Elements.{All-head, All-tail}
 use Rattle.vx_lines.specs.TextLines.{TextLines, at_end, no_eol, too_long, too_many}
 use Rattle.vx_desk.specs.declared.device.Slot.{Slot}
-use Rattle.vx_desk.specs.declared.device.Slot.TheVariants.{Out}
 use Rattle.vx_desk.specs.Told.{LAST_COUNT, Told}
 use Rattle.vx_feed.specs.Feed.{BadLine, IsLawfulFeed, Reading, reading_of}
 use Rattle.vx_settle.specs.declared.fault.PositionFault.{PositionFault}
@@ -19,7 +18,7 @@ use Rattle.vx_drivers.specs.declared.exit.Exit.TheVariants.{Done, SaidNo, Usage,
 use Rattle.vx_drivers.specs.declared.exit.PositionCause.{PositionCause}
 use Rattle.vx_drivers.specs.declared.exit.PositionCause.TheVariants.{Fault, TooLong, NoEol, TooMany}
 use Rattle.vx_drivers.specs.CertificateRun.{certificates_of}
-use Rattle.vx_drivers.specs.CertificateSteps.{HasEnded, IfBoth}
+use Rattle.vx_drivers.specs.CertificateSteps.{IfBoth}
 use Rattle.vx_drivers.specs.CertificateRun.{RunsBy}
 use Rattle.vx_drivers.specs.Exits.{exit_calls}
 use Rattle.vx_drivers.specs.PositionRun.{NextIsBad, RunsUnlessBad, SettledBefore, positions_of}
@@ -27,7 +26,7 @@ use Rattle.vx_drivers.specs.Sending.{Text}
 use Rattle.vx_drivers.specs.TickRun.{EndsTicks}
 use Rattle.vx_cli.specs.CheckRuns.{check_rules}
 use Rattle.vx_cli.specs.LawfulExits.{AreLawfulPositions, CountsNoFailure, EndsLawfully, HoldsText, IsCheckedOrNoMemory, IsDoneOrNoMemory}
-use Rattle.vx_cli.specs.Runs.{HasReplayed, HasSettled, IsCheckExit, IsExitOf, IsMakeExit, IsReplayExit, IsSettleExit, SendsFor}
+use Rattle.vx_cli.specs.Runs.{HasChecked, HasReplayed, HasSettled, IsCheckExit, IsExitOf, IsMakeExit, IsReplayExit, IsSettleExit, SendsFor}
 use Rattle.vx_cli.specs.SettleRuns.{AnsweredOpening, settle_rules}
 use Rattle.vx_cli.specs.SettleText.{Settled}
 use Rattle.vx_cli.specs.Words.{Command, check, drill, make, replay, settle}
@@ -61,7 +60,7 @@ bad_feed_not_done None line why none is = absurd (let no : ⊥ = cc in no)
 bad_feed_not_done (Some bad) line why none h = absurd (let no : ⊥ = cc in no)
 
 module _ (feed : Option Text) (before after : Slot → Told) (lawful : HoldsText feed IsLawfulFeed) where
-  replay_ends : (exit : Exit) → exit_calls exit ≡ None → IsReplayExit exit → HasReplayed (option_map reading_of feed) before after exit
+  replay_ends : (exit : Exit) → exit_calls exit ≡ None → IsReplayExit exit → HasReplayed feed before after exit
       → IsDoneOrNoMemory exit
   replay_ends Done none is h = tt
   replay_ends (SaidNo count) none is h = absurd is
@@ -93,9 +92,9 @@ feed_not_bad None certs sent line why lawful some runs =
     let same = lawful.text_is in
     absurd (let no : ⊥ = cc in no)
 
-module _ (feed certs : Option Text) (before after : Told) (lawful : HoldsText feed IsLawfulFeed) (there : IsSome certs) where
+module _ (feed certs : Option Text) (before after : Slot → Told) (lawful : HoldsText feed IsLawfulFeed) (there : IsSome certs) where
   check_ends : (exit : Exit) → exit_calls exit ≡ None → IsCheckExit exit
-      → HasEnded check_rules (option_map reading_of feed) (option_map certificates_of certs) before after exit → IsCheckedOrNoMemory exit
+      → HasChecked (record { feed = feed; side = certs }) before after exit → IsCheckedOrNoMemory exit
   check_ends Done none is h = tt
   check_ends (SaidNo count) none is h = tt
   check_ends Usage none is h = absurd is
@@ -158,7 +157,7 @@ feed_not_stopped (Some bad) events lines line cause out certs none h = absurd (l
 module _ (feed positions : Option Text) (before after : Slot → Told) (lawful : HoldsText feed IsLawfulFeed)
     (are_lawful : HoldsText positions AreLawfulPositions) where
   abbrev HasSettledThem : Exit → Type 0
-  HasSettledThem exit = HasSettled (option_map reading_of feed) (option_map positions_of positions) before after exit
+  HasSettledThem exit = HasSettled (record { feed = feed; side = positions }) before after exit
 
   lines_are : (exit : Exit) (h : HasSettledThem exit) → positions_of are_lawful.text ≡ h.lines
   lines_are exit h = subst (λ (o : Option Text). IfSome (option_map positions_of o) (λ told. told ≡ h.lines)) are_lawful.text_is h.lines_are
@@ -200,7 +199,7 @@ ends_by : (command : Command) (holds : List ℕ → Option (List ℕ)) (before a
     → IsExitOf exit command → SendsFor (Some command) holds before after exit → EndsLawfully command holds exit
 ends_by (replay feed certs) holds before after exit none is sends = λ lawful. replay_ends (holds feed) before after lawful exit none is sends
 ends_by (check feed certs) holds before after exit none is sends = λ lawful there.
-    check_ends (holds feed) (holds certs) (before Out) (after Out) lawful there exit none is sends
+    check_ends (holds feed) (holds certs) before after lawful there exit none is sends
 ends_by (settle feed positions certs) holds before after exit none is sends = λ lawful are_lawful.
     settle_ends (holds feed) (holds positions) before after lawful are_lawful exit none is sends
 ends_by (make number ticks) holds before after exit none is sends = make_ends exit none is

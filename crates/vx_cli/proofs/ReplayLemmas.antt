@@ -1,17 +1,20 @@
--- A run of `replay` that is cut off before it sends.
-use Rattle.std.proofs.Common.{◌≡◌, sym, subst, refl, inl, true, false, Bool, [], Option, Some, None, arith}
+-- A run of `replay` that is cut off before it sends, and one over files that are open.
+use Rattle.std.proofs.Common.{◌≡◌, ◌∙◌, sym, ap, subst, refl, inl, ℕ, true, false, Bool, IsTrue, List, [], Option, Some, None, arith}
+use Rattle.std.specs.Io.KnownBytes.{append_known}
+use Rattle.std.specs.Option.{option_map}
 use Rattle.vx_desk.specs.declared.device.Slot.{Slot}
 use Rattle.vx_desk.specs.declared.device.Slot.TheVariants.{Feed, Out, Certs}
 use Rattle.vx_desk.specs.Told.{Told}
-use Rattle.vx_feed.specs.Feed.{Reading}
+use Rattle.vx_feed.specs.Feed.{Reading, reading_of}
 use Rattle.vx_reading.specs.FeedReading.{Says, all_good}
 use Rattle.vx_drivers.specs.declared.exit.Exit.{Exit}
-use Rattle.vx_drivers.specs.declared.exit.Exit.TheVariants.{OpenFault, ReadFault}
 use Rattle.vx_drivers.specs.Exits.{is_cut}
+use Rattle.vx_drivers.specs.Sending.{Sent, Text}
 use Rattle.vx_drivers.specs.TickRun.{AreWhole, GivesTickAnswers, GivesTickParts, RunsTicksIf, no_events}
+use Rattle.vx_drivers.specs.TickSteps.{HasEndedTicks}
 use Rattle.vx_drivers.proofs.SendingLemmas.{sent_none}
 use Rattle.vx_cli.specs.ReplayRuns.{replay_rules}
-use Rattle.vx_cli.specs.Runs.{HasReplayed, SentIfOpen}
+use Rattle.vx_cli.specs.Runs.{HasReplayed, ReplaysEventsRead, ReplaysOpen, SentIfOpen}
 
 none_begun : AreWhole replay_rules [] [] []
 none_begun before answer after is begun = absurd (let no : ⊥ = omega (arith, begun) in no)
@@ -49,10 +52,10 @@ some_feed None = record { over = all_good []; feed_is = tt }
 some_feed (Some f) = record { over = f; feed_is = refl }
 
 -- a run that is cut off before it sends
-pub nothing_sent : (feed : Option Reading) (before after : Slot → Told) (exit : Exit) → is_cut exit ≡ true → after Out ≡ before Out
-    → (after Certs).is_open ≡ false → (after Certs).sent ≡ (before Certs).sent → (exit ≡ ReadFault Feed → ⊥) → HasReplayed feed before after exit
-nothing_sent feed before after exit cut out shut certs no_read =
-    let some = some_feed feed in
+pub nothing_sent : (held : Option (List ℕ)) (before after : Slot → Told) (exit : Exit) → is_cut exit ≡ true → after Out ≡ before Out
+    → (after Certs).is_open ≡ false → (after Certs).sent ≡ (before Certs).sent → HasReplayed held before after exit
+nothing_sent held before after exit cut out shut certs =
+    let some = some_feed (option_map reading_of held) in
     record {
       over = some.over;
       feed_is = some.feed_is;
@@ -62,9 +65,36 @@ nothing_sent feed before after exit cut out shut certs no_read =
           (record { parts = first_parts some.over; whole = λ not. no_answers some.over });
       out_sent = sent_none (before Out) (after Out) out;
       certs_sent = subst (λ (b : Bool). SentIfOpen b [] (before Certs) (after Certs)) (sym shut) (refl, certs);
-      read_fault = λ is. absurd (no_read is);
+      cut = λ is. subst (λ (b : Bool). ReplaysEventsRead held after exit [] [] b) (sym shut) (refl, refl);
     }
 
--- where an open failed no read did
-pub no_read_failed : (slot other : Slot) (exit : Exit) → exit ≡ OpenFault slot → exit ≡ ReadFault other → ⊥
-no_read_failed slot other exit opens reads = cc
+-- ---- files that are open
+
+-- a text that is sent behind nothing
+begun : (sent : Option (List ℕ)) (text : Text) → append_known (option_map (λ bytes. []) sent) text ≡ option_map (λ bytes. text) sent
+begun None text = refl
+begun (Some bytes) text = refl
+
+-- and to a slot that is open
+sent_open : (is_open : Bool) (text : Text) (before after : Told) → IsTrue is_open → after.sent ≡ option_map (λ bytes. text) before.sent
+    → SentIfOpen is_open text before after
+sent_open true text before after there sent = sent
+sent_open false text before after there sent = absurd (let no : ⊥ = cc in no)
+
+-- what is sent over files that are open is sent over the bytes that the feed's name holds
+pub files_replayed : (held : Option (List ℕ)) (before opened after : Slot → Told) (exit : Exit) → (opened Feed).left ≡ held
+    → opened Out ≡ before Out → (opened Certs).sent ≡ option_map (λ bytes. []) (before Certs).sent
+    → IsTrue (after Certs).is_open → ReplaysOpen opened after exit → HasReplayed held before after exit
+files_replayed held before opened after exit feed_left out_same nothing there replays =
+    let ended = subst (λ (left : Option (List ℕ)). HasEndedTicks replay_rules left (option_map reading_of left) opened after exit) feed_left replays in
+    record {
+      over = ended.over;
+      feed_is = ended.feed_is;
+      out = ended.out;
+      certs = ended.certs;
+      runs = ended.runs;
+      out_sent = subst (λ (t : Told). Sent ended.out t (after Out)) out_same ended.out_sent;
+      certs_sent = sent_open (after Certs).is_open ended.certs (before Certs) (after Certs) there
+          (ended.certs_sent ∙ ap (λ sent. append_known sent ended.certs) nothing ∙ begun (before Certs).sent ended.certs);
+      cut = λ is. subst (λ (b : Bool). ReplaysEventsRead held after exit ended.out ended.certs b) (sym there) (ended.cut is);
+    }

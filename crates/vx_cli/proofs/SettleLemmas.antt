@@ -14,11 +14,13 @@ use Rattle.vx_drivers.specs.declared.exit.Exit.TheVariants.{Done, SaidNo, Usage,
 use Rattle.vx_drivers.specs.declared.exit.PositionCause.{PositionCause}
 use Rattle.vx_drivers.specs.declared.exit.PositionCause.TheVariants.{Fault, TooLong, NoEol, TooMany}
 use Rattle.vx_drivers.specs.Exits.{IsWithoutNoMemory, is_cut}
+use Rattle.vx_drivers.specs.Held.{Held}
 use Rattle.vx_drivers.specs.PositionExits.{IsPositionCause}
 use Rattle.vx_drivers.specs.PositionRun.{RunsPositionsIf, positions_of}
+use Rattle.vx_drivers.specs.PositionSteps.{SettlesNothingOrRead}
 use Rattle.vx_drivers.specs.Sending.{Sent, Text}
 use Rattle.vx_drivers.proofs.SendingLemmas.{sent_none}
-use Rattle.vx_cli.specs.Runs.{HasSettled, IsSettleExit, SentIfOpen, SettlesOpen}
+use Rattle.vx_cli.specs.Runs.{HasSettled, IsSettleExit, SentIfOpen, SettlesOpen, SettlesWhatWasRead}
 use Rattle.vx_cli.specs.SettleRuns.{settle_rules}
 
 some_feed : (feed : Option Reading) → (over : Reading) × Says feed over
@@ -30,11 +32,11 @@ some_lines None = (ended at_end, tt)
 some_lines (Some p) = (p, refl)
 
 -- nothing was sent, and the run is cut off
-pub nothing_settled : (feed : Option Reading) (positions : Option TextLines) (before after : Slot → Told) (exit : Exit) → is_cut exit ≡ true → after Out ≡ before Out
-    → (after Certs).is_open ≡ false → (after Certs).sent ≡ (before Certs).sent → HasSettled feed positions before after exit
-nothing_settled feed positions before after exit cut out shut certs =
-    let over = some_feed feed in
-    let lines = some_lines positions in
+pub nothing_settled : (held : Held) (before after : Slot → Told) (exit : Exit) → is_cut exit ≡ true → after Out ≡ before Out
+    → (after Certs).is_open ≡ false → (after Certs).sent ≡ (before Certs).sent → HasSettled held before after exit
+nothing_settled held before after exit cut out shut certs =
+    let over = some_feed (option_map reading_of held.feed) in
+    let lines = some_lines (option_map positions_of held.side) in
     record {
       over = over.0;
       feed_is = over.1;
@@ -45,6 +47,7 @@ nothing_settled feed positions before after exit cut out shut certs =
       runs = subst (λ (b : Bool). RunsPositionsIf settle_rules over.0 lines.0 exit [] [] b) (sym cut) (inl (refl, refl));
       out_sent = sent_none (before Out) (after Out) out;
       certs_sent = subst (λ (b : Bool). SentIfOpen b [] (before Certs) (after Certs)) (sym shut) (refl, certs);
+      cut = λ is. subst (λ (b : Bool). SettlesWhatWasRead held after exit [] [] b) (sym shut) (refl, refl);
     }
 
 position_without : (line : _) (cause : PositionCause) → IsPositionCause cause → IsWithoutNoMemory (BadPositions line cause)
@@ -80,11 +83,18 @@ sent_open : (is_open : Bool) (text : Text) (before after : Told) → IsTrue is_o
 sent_open true text before after there sent = sent
 sent_open false text before after there sent = absurd (let no : ⊥ = cc in no)
 
+-- and what is sent is what the lines give that were read
+read_open : (held : Held) (after : Slot → Told) (exit : Exit) (out certs : Text) (is_open : Bool) → IsTrue is_open
+    → SettlesNothingOrRead settle_rules held (option_map reading_of held.feed) (option_map positions_of held.side) after exit out certs
+    → SettlesWhatWasRead held after exit out certs is_open
+read_open held after exit out certs true there all = all
+read_open held after exit out certs false there all = absurd (let no : ⊥ = cc in no)
+
 -- what is sent over files that are open is sent over the bytes that their names hold
 pub files_settled : (feed positions : Option (List ℕ)) (before opened after : Slot → Told) (exit : Exit) → (opened Feed).left ≡ feed
     → (opened Side).left ≡ positions → opened Out ≡ before Out → (opened Certs).sent ≡ option_map (λ bytes. []) (before Certs).sent
     → IsTrue (after Certs).is_open → SettlesOpen opened after exit
-    → HasSettled (option_map reading_of feed) (option_map positions_of positions) before after exit
+    → HasSettled (record { feed = feed; side = positions }) before after exit
 files_settled feed positions before opened after exit feed_left side_left out_same nothing there ended = record {
   over = ended.over;
   feed_is = subst (λ (left : Option (List ℕ)). Says (option_map reading_of left) ended.over) feed_left ended.feed_is;
@@ -96,4 +106,11 @@ files_settled feed positions before opened after exit feed_left side_left out_sa
   out_sent = subst (λ (t : Told). Sent ended.out t (after Out)) out_same ended.out_sent;
   certs_sent = sent_open (after Certs).is_open ended.certs (before Certs) (after Certs) there
       (ended.certs_sent ∙ ap (λ sent. append_known sent ended.certs) nothing ∙ begun (before Certs).sent ended.certs);
+  cut = λ cut. read_open (record { feed = feed; side = positions }) after exit ended.out ended.certs (after Certs).is_open there
+      (subst (λ (left : Option (List ℕ)). AllRead left positions) feed_left
+      (subst (λ (left : Option (List ℕ)). AllRead (opened Feed).left left) side_left (ended.cut cut)));
 }
+  where
+    AllRead : Option (List ℕ) → Option (List ℕ) → Type 0
+    AllRead fed lines =
+        SettlesNothingOrRead settle_rules (record { feed = fed; side = lines }) (option_map reading_of fed) (option_map positions_of lines) after exit ended.out ended.certs

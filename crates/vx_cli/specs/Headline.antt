@@ -25,7 +25,7 @@ use Rattle.vx_drivers.specs.declared.exit.Exit.TheVariants.{Done}
 use Rattle.vx_drivers.specs.Answers.{Answer, said_yes, said_no, answers_text, count_no, end_text}
 use Rattle.vx_drivers.specs.CertificateRun.{certificates_of}
 use Rattle.vx_drivers.specs.PositionRun.{items_from, positions_of}
-use Rattle.vx_drivers.specs.Sending.{Sent, Text}
+use Rattle.vx_drivers.specs.Sending.{Begins, Sent, Text}
 use Rattle.vx_drivers.specs.TickRun.{certificates_text, counts_text, lines_text}
 use Rattle.vx_cli.specs.CheckRuns.{test_word, yes_words}
 use Rattle.vx_cli.specs.ExitText.{field_word}
@@ -35,10 +35,6 @@ use Rattle.vx_cli.specs.Runs.{SentIfOpen}
 use Rattle.vx_cli.specs.SettleRuns.{LineComesTo, settle_rules}
 use Rattle.vx_cli.specs.SettleText.{Settled, figure_of, last_text, opening_certificate_text, opening_clock, opening_text}
 use Rattle.vx_cli.specs.Words.{Command, check, replay, settle}
-
--- the text begins with this part
-abbrev pub Begins : Text → Text → Type 0
-Begins part text = (rest : Text) × (text ≡ part ++ rest)
 
 -- the items are those of the first lines, one a line in their order, and each is right for its line
 abbrev pub AreOfLines : {A : Type 0} → (Text → A → Type 0) → List Text → List A → Type 0

@@ -7,24 +7,24 @@ use Rattle.vx_desk.specs.declared.device.Slot.TheVariants.{Feed, Side, Out, Cert
 use Rattle.vx_lines.specs.TextLines.{TextLines}
 use Rattle.vx_feed.specs.Feed.{Reading, reading_of}
 use Rattle.vx_make.specs.Feed.{make_text}
-use Rattle.vx_reading.specs.FeedReading.{IsCutBehind, Says, feed_told}
+use Rattle.vx_reading.specs.FeedReading.{Says, feed_told}
 use Rattle.vx_drivers.specs.declared.exit.Exit.{Exit}
-use Rattle.vx_drivers.specs.declared.exit.Exit.TheVariants.{Done, OpenFault, ReadFault, WriteFault, NoMemory}
-use Rattle.vx_drivers.specs.Along.{Along}
+use Rattle.vx_drivers.specs.declared.exit.Exit.TheVariants.{Done, OpenFault, WriteFault, NoMemory}
 use Rattle.vx_drivers.specs.CertificateExits.{IsCertificateExit}
-use Rattle.vx_drivers.specs.CertificateRun.{certificates_of}
-use Rattle.vx_drivers.specs.CertificateSteps.{HasEnded, certs_told}
+use Rattle.vx_drivers.specs.CertificateRun.{RunsBy, certificates_of}
+use Rattle.vx_drivers.specs.CertificateSteps.{AnswersLinesRead, EndsCertificates, IfBoth}
+use Rattle.vx_drivers.specs.Exits.{is_cut}
+use Rattle.vx_drivers.specs.Held.{Held, held_by}
 use Rattle.vx_drivers.specs.PositionExits.{IsPositionExit}
 use Rattle.vx_drivers.specs.PositionRun.{RunsPositionsBy, positions_of}
-use Rattle.vx_drivers.specs.PositionSteps.{HasEndedPositions, positions_told}
+use Rattle.vx_drivers.specs.PositionSteps.{HasEndedPositions, SettlesNothingOrRead, positions_told}
 use Rattle.vx_drivers.specs.Sending.{Sent, SentPart, Text}
 use Rattle.vx_drivers.specs.TickExits.{IsTickExit}
-use Rattle.vx_drivers.specs.TickRun.{RunsTicksBy, TakesEvent, TickStand, certificates_text, lines_text, no_events}
-use Rattle.vx_drivers.specs.TickSteps.{HasEndedTicks}
+use Rattle.vx_drivers.specs.TickRun.{RunsTicksBy}
+use Rattle.vx_drivers.specs.TickSteps.{AnswersEventsRead, HasEndedTicks}
 use Rattle.vx_cli.specs.CheckRuns.{check_rules}
 use Rattle.vx_cli.specs.DrillText.{Drills}
 use Rattle.vx_cli.specs.ReplayRuns.{replay_rules}
-use Rattle.vx_cli.specs.ReplayText.{Answered}
 use Rattle.vx_cli.specs.SettleRuns.{settle_rules}
 use Rattle.vx_cli.specs.Words.{Command, check, drill, make, replay, settle}
 
@@ -146,77 +146,98 @@ DrillsTo number ticks before after (WriteFault Out) =
     (line : Text) × Drills number ticks line × SentPart line before after
 DrillsTo number ticks before after _ = ⊥
 
--- what a run of `check` sends, by its exit: over the bytes that the two names hold, where they are told, the text of a run
--- that ends so, or a first part of it where a call fails or memory is wanting
-abbrev pub ChecksFiles : Text → Text → (List ℕ → Option (List ℕ)) → (Slot → Told) → (Slot → Told) → Exit → Type 0
-ChecksFiles feed certs holds before after exit =
-    HasEnded check_rules (option_map reading_of (holds feed)) (option_map certificates_of (holds certs)) (before Out) (after Out) exit
-
--- the same of two files that are open
-abbrev pub ChecksOpen : (Slot → Told) → (Slot → Told) → Exit → Type 0
-ChecksOpen before after exit = HasEnded check_rules (feed_told before) (certs_told before) (before Out) (after Out) exit
-
 -- a text is all that was sent to a slot since its opening, where what was sent is told; to a slot that is not open
 -- nothing was sent
 abbrev pub SentIfOpen : Bool → Text → Told → Told → Type 0
 SentIfOpen true text before after = after.sent ≡ option_map (λ bytes. text) before.sent
 SentIfOpen false text before after = (text ≡ []) × (after.sent ≡ before.sent)
 
--- a read of the feed failed: just the answers to its first ticks were sent, each with its certificate, and behind the
--- events that were then taken up no more was read of the feed than a part of a line
-pub record AnswersBeforeFault (feed : Option Reading) (before after : Slot → Told) : Type 0 where
-  pub stand : TickStand Answered
-  pub steps : Along (TakesEvent replay_rules) no_events stand.events stand
-  pub cut : IsCutBehind feed stand.events after
-  pub out_sent : Sent (lines_text replay_rules stand.answers) (before Out) (after Out)
-  pub certs_sent : SentIfOpen (after Certs).is_open (certificates_text replay_rules stand.answers)
-      (before Certs) (after Certs)
+-- what a run of `check` sends that is cut off, by whether it has opened its certificates: nothing, or the answers to
+-- first lines, which were read by then, or where a write failed a first part of them
+abbrev pub ChecksLinesRead : Held → (Slot → Told) → Exit → Text → Bool → Type 0
+ChecksLinesRead held after exit text false = text ≡ []
+ChecksLinesRead held after exit text true =
+    AnswersLinesRead check_rules held (option_map reading_of held.feed) (option_map certificates_of held.side) after exit text
 
--- what a run of `replay` sends over a feed, the one that is told, or some feed where none is: to the output and to the
--- file of certificates the two texts of a run that ends so, or first parts of them where a call fails or memory is
--- wanting, each certificate whole whose line was begun
-pub record HasReplayed (feed : Option Reading) (before after : Slot → Told) (exit : Exit) : Type 0 where
+-- what a run of `check` sends, by its exit, over the bytes that its two files held, where they are told: the text of a run
+-- that ends so; or where a call fails or memory is wanting, a first part of it, which the lines give that were read
+pub record HasChecked (held : Held) (before after : Slot → Told) (exit : Exit) : Type 0 where
+  pub text : Text
+  pub sent : Sent text (before Out) (after Out)
+  pub runs : IfBoth (option_map reading_of held.feed) (option_map certificates_of held.side)
+      (λ feed certs. RunsBy check_rules feed certs text exit)
+  pub cut : is_cut exit ≡ true → ChecksLinesRead held after exit text (after Side).is_open
+
+-- the same over the bytes that the two names hold
+abbrev pub ChecksFiles : Text → Text → (List ℕ → Option (List ℕ)) → (Slot → Told) → (Slot → Told) → Exit → Type 0
+ChecksFiles feed certs holds before after exit =
+    HasChecked (record { feed = holds feed; side = holds certs }) before after exit
+
+-- the same of two files that are open
+abbrev pub ChecksOpen : (Slot → Told) → (Slot → Told) → Exit → Type 0
+ChecksOpen before after exit = EndsCertificates check_rules before after exit
+
+-- what a run of `replay` sends that is cut off, by whether it has opened the file of certificates: nothing, or the answers to
+-- first ticks, which were read by then, each with its certificate, or where a write failed a first part of them
+abbrev pub ReplaysEventsRead : Option (List ℕ) → (Slot → Told) → Exit → Text → Text → Bool → Type 0
+ReplaysEventsRead held after exit out certs false = (out ≡ []) × (certs ≡ [])
+ReplaysEventsRead held after exit out certs true =
+    AnswersEventsRead replay_rules held (option_map reading_of held) after exit out certs
+
+-- what a run of `replay` sends over the bytes that its feed held, those that are told, or some feed where none are: to the
+-- output and to the file of certificates the two texts of a run that ends so; or where a call fails or memory is wanting,
+-- first parts of them, which the lines give that were read, each certificate whole whose line was begun
+pub record HasReplayed (held : Option (List ℕ)) (before after : Slot → Told) (exit : Exit) : Type 0 where
   pub over : Reading
-  pub feed_is : Says feed over
+  pub feed_is : Says (option_map reading_of held) over
   pub out : Text
   pub certs : Text
   pub runs : RunsTicksBy replay_rules over exit out certs
   pub out_sent : Sent out (before Out) (after Out)
   pub certs_sent : SentIfOpen (after Certs).is_open certs (before Certs) (after Certs)
-  pub read_fault : exit ≡ ReadFault Feed → AnswersBeforeFault feed before after
+  pub cut : is_cut exit ≡ true → ReplaysEventsRead held after exit out certs (after Certs).is_open
 
 -- the same of files that are open
 abbrev pub ReplaysOpen : (Slot → Told) → (Slot → Told) → Exit → Type 0
-ReplaysOpen before after exit = HasEndedTicks replay_rules (feed_told before) before after exit
+ReplaysOpen before after exit =
+    HasEndedTicks replay_rules (before Feed).left (feed_told before) before after exit
 
 -- the same over the bytes that the feed's name holds
 abbrev pub ReplaysFile : Text → (List ℕ → Option (List ℕ)) → (Slot → Told) → (Slot → Told) → Exit → Type 0
-ReplaysFile feed holds before after exit = HasReplayed (option_map reading_of (holds feed)) before after exit
+ReplaysFile feed holds before after exit = HasReplayed (holds feed) before after exit
 
--- what a run of `settle` sends over a feed and lines of positions, those that are told, or some where none are: to the
--- output and to the file of certificates the two texts of a run that ends so, or first parts of them where a call fails
--- or memory is wanting, the certificate whole where anything of the output was sent
-pub record HasSettled (feed : Option Reading) (positions : Option TextLines) (before after : Slot → Told)
-    (exit : Exit) : Type 0 where
+-- what a run of `settle` sends that is cut off, by whether it has opened the file of certificates: nothing, or what the
+-- opening and first lines of positions give, which were read by then, or where a write failed a first part of it
+abbrev pub SettlesWhatWasRead : Held → (Slot → Told) → Exit → Text → Text → Bool → Type 0
+SettlesWhatWasRead held after exit out certs false = (out ≡ []) × (certs ≡ [])
+SettlesWhatWasRead held after exit out certs true =
+    SettlesNothingOrRead settle_rules held (option_map reading_of held.feed) (option_map positions_of held.side) after exit out certs
+
+-- what a run of `settle` sends over the bytes that its feed and its positions held, those that are told, or some where none
+-- are: to the output and to the file of certificates the two texts of a run that ends so; or where a call fails or memory
+-- is wanting, first parts of them, which the lines give that were read, the certificate whole where anything of the output
+-- was sent
+pub record HasSettled (held : Held) (before after : Slot → Told) (exit : Exit) : Type 0 where
   pub over : Reading
-  pub feed_is : Says feed over
+  pub feed_is : Says (option_map reading_of held.feed) over
   pub lines : TextLines
-  pub lines_are : IfSome positions (λ told. told ≡ lines)
+  pub lines_are : IfSome (option_map positions_of held.side) (λ told. told ≡ lines)
   pub out : Text
   pub certs : Text
   pub runs : RunsPositionsBy settle_rules over lines exit out certs
   pub out_sent : Sent out (before Out) (after Out)
   pub certs_sent : SentIfOpen (after Certs).is_open certs (before Certs) (after Certs)
+  pub cut : is_cut exit ≡ true → SettlesWhatWasRead held after exit out certs (after Certs).is_open
 
 -- the same of files that are open
 abbrev pub SettlesOpen : (Slot → Told) → (Slot → Told) → Exit → Type 0
 SettlesOpen before after exit =
-    HasEndedPositions settle_rules (feed_told before) (positions_told before) before after exit
+    HasEndedPositions settle_rules (held_by before) (feed_told before) (positions_told before) before after exit
 
 -- the same over the bytes that the names of the feed and of the positions hold
 abbrev pub SettlesFiles : Text → Text → (List ℕ → Option (List ℕ)) → (Slot → Told) → (Slot → Told) → Exit → Type 0
 SettlesFiles feed positions holds before after exit =
-    HasSettled (option_map reading_of (holds feed)) (option_map positions_of (holds positions)) before after exit
+    HasSettled (record { feed = holds feed; side = holds positions }) before after exit
 
 -- what a command sends, by the exit of its run: `check`, `make` and `drill` to the output alone
 abbrev pub SendsFor : Option Command → (List ℕ → Option (List ℕ)) → (Slot → Told) → (Slot → Told) → Exit → Type 0

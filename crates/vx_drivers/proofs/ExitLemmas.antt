@@ -24,13 +24,14 @@ write_cuts slot exit is = ap is_cut is
 pub write_is_fault : {P : Type 0} (slot : Slot) (exit : Exit) → exit ≡ WriteFault slot → is_write_fault exit ≡ false → P
 write_is_fault slot exit is not = absurd (let no : ⊥ = let fault : is_write_fault exit ≡ true = ap is_write_fault is in cc in no)
 
+-- exits that cut no run off
+pub done_not_cut : {P : Type 0} → is_cut Done ≡ true → P
+done_not_cut is = absurd (let no : ⊥ = cc in no)
+
+pub bad_not_cut : {P : Type 0} (line : ℕ) (why : FeedCause) → is_cut (BadFeed line why) ≡ true → P
+bad_not_cut line why is = absurd (let no : ⊥ = cc in no)
+
 -- exits that are none of a failed read of the feed
-pub done_not_read : {P : Type 0} → Done ≡ ReadFault Feed → P
-done_not_read is = absurd (let no : ⊥ = cc in no)
-
-pub bad_not_read : {P : Type 0} (line : ℕ) (why : FeedCause) → BadFeed line why ≡ ReadFault Feed → P
-bad_not_read line why is = absurd (let no : ⊥ = cc in no)
-
 pub memory_not_read : {P : Type 0} → NoMemory ≡ ReadFault Feed → P
 memory_not_read is = absurd (let no : ⊥ = cc in no)
 

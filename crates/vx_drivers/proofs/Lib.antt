@@ -4,6 +4,7 @@ pub mod CauseLemmas
 mod CertificateLemmas
 pub mod ExitLemmas
 mod FailureLemmas
+pub mod GivenLemmas
 pub mod OneRun
 pub mod PositionLawLemmas
 mod PositionLinesLemmas

@@ -1,12 +1,12 @@
 -- A run that settles positions, from its start to its end.
-use Rattle.std.proofs.Common.{◌≡◌, ◌==◌, ◌∙◌, sym, ap, subst, refl, ℕ, ◌+◌, ◌-◌, ◌<◌, ◌≤◌, ◌⊎◌, inl, inr, Bool, true, false, List, [], ◌∷◌, ◌++◌, length, take, drop, get_or, Option, Some, None, IfSome, arith, Result, Ok, Err}
+use Rattle.std.proofs.Common.{◌≡◌, ◌≢◌, ◌==◌, ◌∙◌, sym, ap, subst, refl, ℕ, ◌+◌, ◌-◌, ◌<◌, ◌≤◌, ◌⊎◌, inl, inr, Bool, true, false, List, [], ◌∷◌, ◌++◌, length, take, drop, get_or, Option, Some, None, IfSome, arith, Result, Ok, Err}
 use Rattle.std.specs.Option.{option_map}
 use Rattle.std.proofs.lemmas.List.{append-nil, append_assoc, take-append-drop}
 use Rattle.std.proofs.lemmas.Bool.Decides.{nat_tests}
 use Rattle.vx_lines.specs.TextLines.{Ending, TextLines, at_end, at_most, ended, line_then, lines_of, lines_then, no_eol, too_long, too_many}
 use Rattle.vx_lines.proofs.LineLemmas.{lines_then-push}
 use Rattle.vx_desk.specs.declared.device.Slot.{Slot}
-use Rattle.vx_desk.specs.declared.device.Slot.TheVariants.{Side, Out, Certs}
+use Rattle.vx_desk.specs.declared.device.Slot.TheVariants.{Feed, Side, Out, Certs}
 use Rattle.vx_desk.specs.Coming.{coming}
 use Rattle.vx_desk.specs.Lines.{ReaderState}
 use Rattle.vx_desk.specs.Told.{Told}
@@ -18,9 +18,10 @@ use Rattle.vx_reading.specs.declared.feed.FeedReader.{FeedReader}
 use Rattle.vx_reading.specs.declared.stop.FeedStop.{FeedStop}
 use Rattle.vx_reading.specs.declared.stop.FeedStop.TheVariants as stop
 use Rattle.vx_reading.specs.FeedReading.{ReadsAll, Says, all_good, feed_told}
+use Rattle.vx_reading.specs.WhatWasRead.{EventsRead, WereRead}
 use Rattle.vx_reading.specs.Stops.{bad_cause}
 use Rattle.vx_drivers.specs.declared.exit.Exit.{Exit}
-use Rattle.vx_drivers.specs.declared.exit.Exit.TheVariants.{Done, BadFeed, BadPositions}
+use Rattle.vx_drivers.specs.declared.exit.Exit.TheVariants.{Done, BadFeed, BadPositions, ReadFault, WriteFault, NoMemory as WantsMemory}
 use Rattle.vx_drivers.specs.declared.exit.PositionCause.{PositionCause}
 use Rattle.vx_drivers.specs.declared.exit.PositionCause.TheVariants as cause
 use Rattle.vx_drivers.specs.declared.limits.TheConstants.{POSITION_LINES_MAX, POSITION_LINE_LEN_MAX}
@@ -30,13 +31,16 @@ use Rattle.vx_drivers.specs.declared.position_lines.Rest.TheVariants.{More, End,
 use Rattle.vx_drivers.specs.declared.position_run.PositionRun.{PositionRun}
 use Rattle.vx_drivers.specs.Along.{Along}
 use Rattle.vx_drivers.specs.Exits.{exit_of_stop, is_cut}
+use Rattle.vx_drivers.specs.Held.{Held, held_by}
 use Rattle.vx_drivers.specs.PositionExits.{IsPositionExit}
-use Rattle.vx_drivers.specs.PositionLines.{IsFreshLines, IsPositionLines, IsRestAfter, bad_behind as cause_behind, behind, lines_coming}
+use Rattle.vx_drivers.specs.PositionLines.{HasGivenLines, IsFreshLines, IsPositionLines, IsRestAfter, StopsReading, bad_behind as cause_behind, behind, lines_coming}
 use Rattle.vx_drivers.specs.PositionRun.{GivesPositionParts, NextIsBad, PositionRules, RunsPositionsBy, RunsPositionsIf, Settles, items_from, positions_of, settled_text}
-use Rattle.vx_drivers.specs.PositionSteps.{AddsItem, HasEndedPositions, HasOpened, IsSettling, IsThroughPositions, OpensSheet, SendsItem, SettlesLine, allowed_positions, positions_told}
-use Rattle.vx_drivers.specs.Sending.{CutsOff, Sent, SendsOr, Text}
+use Rattle.vx_drivers.specs.PositionSteps.{AddsItem, HasEndedPositions, HasOpened, IsSettling, IsThroughPositions, OpensSheet, SendsItem, SettlesLine, SettlesLinesRead, allowed_positions, positions_told}
+use Rattle.vx_drivers.specs.Sending.{Begins, CutsOff, Sent, SendsOr, Text}
 use Rattle.vx_drivers.specs.TickSteps.{CutsBoth}
 use Rattle.vx_drivers.proofs.AlongLemmas.{along_more}
+use Rattle.vx_drivers.proofs.ExitLemmas.{bad_not_cut, done_not_cut, write_is_fault}
+use Rattle.vx_drivers.proofs.GivenLemmas.{given_kept, given_read, memory_not_side, none_given, none_were_read, write_not_side}
 use Rattle.vx_drivers.proofs.PositionLinesLemmas.{fresh_coming, next_first, none_left}
 use Rattle.vx_drivers.proofs.RunLemmas.{allowed_ended, allowed_line, allowed_none, nothing_waits, twice}
 use Rattle.vx_drivers.proofs.SendingLemmas.{sent_more, sent_none, sent_still}
@@ -72,7 +76,8 @@ first_more positions rest (Some r) lines text first is =
     first ∙ ap (option_map (lines_then lines)) is ∙ ap (λ t. Some t) (sym (lines_then-push lines text r))
 
 -- the line that comes next, of those that are left
-next_left : (rest new : Option TextLines) (text : List ℕ) (after : Left new) → rest ≡ option_map (line_then text) new → IfSome rest (λ r. r ≡ line_then text after.left)
+next_left : (rest new : Option TextLines) (text : List ℕ) (after : Left new) → rest ≡ option_map (line_then text) new
+    → IfSome rest (λ r. r ≡ line_then text after.left)
 next_left rest None text after is = subst (λ o. IfSome o (λ r. r ≡ line_then text after.left)) (sym is) tt
 next_left rest (Some r) text after is =
     subst (λ o. IfSome o (λ t. t ≡ line_then text after.left)) (sym is) (ap (line_then text) after.left_is)
@@ -115,9 +120,10 @@ module _ {A I : Type 0} (rules : PositionRules A I) where
   no_feed (Some f) = (f, refl)
 
   -- nothing was sent, and the run is cut off
-  pub nothing_sent : (feed : Option Reading) (positions : Option TextLines) (before now : Slot → Told) (exit : Exit)
-      → now Out ≡ before Out → now Certs ≡ before Certs → is_cut exit ≡ true → HasEndedPositions rules feed positions before now exit
-  nothing_sent feed positions before now exit out_same certs_same cut =
+  pub nothing_sent : (held : Held) (feed : Option Reading) (positions : Option TextLines) (before now : Slot → Told) (exit : Exit)
+      → now Out ≡ before Out → now Certs ≡ before Certs → is_cut exit ≡ true → exit ≢ ReadFault Side
+      → HasEndedPositions rules held feed positions before now exit
+  nothing_sent held feed positions before now exit out_same certs_same cut not_side =
       let over = no_feed feed in
       let all = some_left positions in
       record {
@@ -130,13 +136,15 @@ module _ {A I : Type 0} (rules : PositionRules A I) where
         runs = cut_by over.0 all.left exit [] [] cut (inl (refl, refl));
         out_sent = sent_none (before Out) (now Out) out_same;
         certs_sent = sent_none (before Certs) (now Certs) certs_same;
+        cut = λ is. inl (record { out_is = refl; certs_are = refl; not_side = not_side });
       }
 
   -- the feed is not read to its end
-  pub feed_stops : {B : Type 0} (StandsFor : B → List Event → Type 0) (feed : Option Reading) (positions : Option TextLines) (reader : FeedReader B)
+  pub feed_stops : {B : Type 0} (StandsFor : B → List Event → Type 0) (held : Held) (feed : Option Reading) (positions : Option TextLines)
+      (reader : FeedReader B)
       (before now : Slot → Told) (why : FeedStop) → now Out ≡ before Out → now Certs ≡ before Certs
-      → ReadsAll StandsFor feed reader now (Err why) → HasEndedPositions rules feed positions before now (exit_of_stop why)
-  feed_stops StandsFor feed positions reader before now (stop.BadLine number why) out_same certs_same (is_cause, events, numbered, says) =
+      → ReadsAll StandsFor held.feed feed reader now (Err why) → HasEndedPositions rules held feed positions before now (exit_of_stop why)
+  feed_stops StandsFor held feed positions reader before now (stop.BadLine number why) out_same certs_same (is_cause, events, numbered, says) =
       let all = some_left positions in
       record {
         over = stopped_at events (bad_cause why);
@@ -148,14 +156,17 @@ module _ {A I : Type 0} (rules : PositionRules A I) where
         runs = (why, ap (λ n. BadFeed n why) numbered, refl, refl, refl);
         out_sent = sent_none (before Out) (now Out) out_same;
         certs_sent = sent_none (before Certs) (now Certs) certs_same;
+        cut = λ is. bad_not_cut number why is;
       }
-  feed_stops StandsFor feed positions reader before now stop.Device out_same certs_same reads =
-      nothing_sent feed positions before now (exit_of_stop stop.Device) out_same certs_same refl
-  feed_stops StandsFor feed positions reader before now stop.NoMemory out_same certs_same reads =
-      nothing_sent feed positions before now (exit_of_stop stop.NoMemory) out_same certs_same refl
+  feed_stops StandsFor held feed positions reader before now stop.Device out_same certs_same reads =
+      nothing_sent held feed positions before now (exit_of_stop stop.Device) out_same certs_same refl
+      (λ is. let same : ReadFault Feed ≡ ReadFault Side = is in cc)
+  feed_stops StandsFor held feed positions reader before now stop.NoMemory out_same certs_same reads =
+      nothing_sent held feed positions before now (exit_of_stop stop.NoMemory) out_same certs_same refl memory_not_side
 
   -- first parts of what the opening and some lines give
-  gives_part : (events : List Event) (answer : A) (items : List I) (lines : List (List ℕ)) (left : TextLines) (last out out_more certs certs_more : Text) (exit : Exit)
+  gives_part : (events : List Event) (answer : A) (items : List I) (lines : List (List ℕ)) (left : TextLines) (last out out_more certs certs_more : Text)
+      (exit : Exit)
       → rules.IsOpening events answer → Along (Settles rules answer) [] lines items
       → (last ≡ []) ⊎ ((left ≡ ended at_end) × (last ≡ rules.last_lines answer items))
       → out ++ out_more ≡ settled_text rules answer items ++ last → certs ++ certs_more ≡ rules.certificate answer
@@ -180,6 +191,57 @@ module _ {A I : Type 0} (rules : PositionRules A I) where
         whole = whole;
       }))
 
+  -- all that the lines give that were read was sent
+  lines_settled : (held : Held) (feed : Option Reading) (positions : Option TextLines) (now : Slot → Told) (exit : Exit) (events : List Event) (answer : A)
+      (items : List I)
+      (lines : List (List ℕ)) → Says feed (all_good events) → EventsRead events held.feed (now Feed) → rules.IsOpening events answer
+      → Along (Settles rules answer) [] lines items → StopsReading lines held.side (now Side) exit
+      → SettlesLinesRead rules held feed positions now exit (settled_text rules answer items) (rules.certificate answer)
+  lines_settled held feed positions now exit events answer items lines says read opening steps stops = record {
+    events = events;
+    feed_is = says;
+    events_read = read;
+    answer = answer;
+    is_opening = opening;
+    items = items;
+    lines = lines;
+    steps = steps;
+    lines_read = stops.were_read;
+    last = [];
+    last_is = inl refl;
+    out_part = ([], refl);
+    certs_part = ([], sym (append-nil (rules.certificate answer)));
+    whole = λ none. (refl, refl);
+    cut = stops.cut;
+  }
+
+  -- a write failed, and a first part of it was sent
+  part_settled : (held : Held) (feed : Option Reading) (positions : Option TextLines) (now : Slot → Told) (slot : Slot) (exit : Exit) (events : List Event)
+      (answer : A)
+      (items : List I) (lines : List (List ℕ)) (last out certs : Text) → exit ≡ WriteFault slot → Says feed (all_good events)
+      → EventsRead events held.feed (now Feed)
+      → rules.IsOpening events answer → Along (Settles rules answer) [] lines items → WereRead lines held.side (now Side)
+      → (last ≡ []) ⊎ (IfSome positions (λ told. told ≡ lines_then lines (ended at_end)) × (last ≡ rules.last_lines answer items))
+      → Begins out (settled_text rules answer items ++ last) → Begins certs (rules.certificate answer)
+      → SettlesLinesRead rules held feed positions now exit out certs
+  part_settled held feed positions now slot exit events answer items lines last out certs is says read opening steps were_read last_is out_part certs_part = record {
+    events = events;
+    feed_is = says;
+    events_read = read;
+    answer = answer;
+    is_opening = opening;
+    items = items;
+    lines = lines;
+    steps = steps;
+    lines_read = were_read;
+    last = last;
+    last_is = last_is;
+    out_part = out_part;
+    certs_part = certs_part;
+    whole = λ none. write_is_fault slot exit is none;
+    cut = λ failed. write_not_side slot exit is failed;
+  }
+
   module _ {S : Type 0} (StandsAt : S → A → List I → Type 0) where
     -- ---- one line
 
@@ -193,7 +255,8 @@ module _ {A I : Type 0} (rules : PositionRules A I) where
     )
 
     -- what the output says of a line is sent, or a first part of it
-    pub item_sent : (answer : A) (items : List I) (text : List ℕ) (line : Text) (sheet : S) (run : PositionRun S) (before after : Told) (result : Result Unit Exit)
+    pub item_sent : (answer : A) (items : List I) (text : List ℕ) (line : Text) (sheet : S) (run : PositionRun S) (before after : Told)
+        (result : Result Unit Exit)
         → AddsItem rules StandsAt answer items text line sheet → run.sheet ≡ sheet → SendsOr Out line before after result
         → SettlesLine rules StandsAt answer items text run before after result
     item_sent answer items text line sheet run before after (Ok u) adds sheet_is sends = record {
@@ -211,11 +274,12 @@ module _ {A I : Type 0} (rules : PositionRules A I) where
     -- ---- the opening
 
     -- a write of one of its texts fails
-    pub opening_cut : (feed : Option Reading) (positions : Option TextLines) (events : List Event) (certificate line : Text) (sheet : S)
-        (before read now : Slot → Told) (exit : Exit) → Says feed (all_good events) → OpensSheet rules StandsAt events certificate line sheet
+    pub opening_cut : (held : Held) (feed : Option Reading) (positions : Option TextLines) (events : List Event) (certificate line : Text) (sheet : S)
+        (before read now : Slot → Told) (exit : Exit) → Says feed (all_good events) → EventsRead events held.feed (now Feed) → held.side ≡ (now Side).left
+        → OpensSheet rules StandsAt events certificate line sheet
         → read Out ≡ before Out → read Certs ≡ before Certs → CutsBoth certificate line read now exit
-        → HasEndedPositions rules feed positions before now exit
-    opening_cut feed positions events certificate line sheet before read now exit says opens out_same certs_same (inl (cut, same)) =
+        → HasEndedPositions rules held feed positions before now exit
+    opening_cut held feed positions events certificate line sheet before read now exit says were_read side opens out_same certs_same (inl (cut, same)) =
         let all = some_left positions in
         let part = take cut.part.count certificate in
         record {
@@ -230,8 +294,11 @@ module _ {A I : Type 0} (rules : PositionRules A I) where
               (take-append-drop cut.part.count certificate ∙ opens.certificate_is) (inl refl) (ap is_cut cut.exit_is);
           out_sent = sent_none (before Out) (now Out) (same ∙ out_same);
           certs_sent = subst (λ (t : Told). Sent part t (now Certs)) certs_same cut.part.sent;
+          cut = λ is. inr (part_settled held feed positions now Certs exit events opens.answer [] [] [] [] part cut.exit_is says were_read opens.is_opening refl
+              (none_were_read held.side (now Side) side) (inl refl) (settled_text rules opens.answer [] ++ [], refl)
+              (drop cut.part.count certificate, sym (take-append-drop cut.part.count certificate ∙ opens.certificate_is)));
         }
-    opening_cut feed positions events certificate line sheet before read now exit says opens out_same certs_same (inr (sent, cut)) =
+    opening_cut held feed positions events certificate line sheet before read now exit says were_read side opens out_same certs_same (inr (sent, cut)) =
         let all = some_left positions in
         let part = take cut.part.count line in
         record {
@@ -247,35 +314,50 @@ module _ {A I : Type 0} (rules : PositionRules A I) where
               (append-nil certificate ∙ opens.certificate_is) (inr refl) (ap is_cut cut.exit_is);
           out_sent = subst (λ (t : Told). Sent part t (now Out)) out_same cut.part.sent;
           certs_sent = subst (λ (t : Told). Sent certificate t (now Certs)) certs_same sent;
+          cut = λ is. inr (part_settled held feed positions now Out exit events opens.answer [] [] []
+              part certificate cut.exit_is says were_read opens.is_opening refl
+              (none_were_read held.side (now Side) side) (inl refl) (
+                drop cut.part.count line,
+                sym (take-append-drop cut.part.count line ∙ opens.line_is ∙ sym (settled_none opens.answer)
+                    ∙ sym (append-nil (settled_text rules opens.answer []))),
+              )
+              ([], sym opens.certificate_is ∙ sym (append-nil certificate)));
         }
 
     -- both are sent
-    pub opening_sent : (feed : Option Reading) (events : List Event) (certificate line : Text) (sheet : S) (run : PositionRun S)
-        (before read now : Slot → Told) → Says feed (all_good events) → OpensSheet rules StandsAt events certificate line sheet
+    pub opening_sent : (held : Option (List ℕ)) (feed : Option Reading) (events : List Event) (certificate line : Text) (sheet : S) (run : PositionRun S)
+        (before read now : Slot → Told) → Says feed (all_good events) → EventsRead events held (now Feed)
+        → OpensSheet rules StandsAt events certificate line sheet
         → read Out ≡ before Out → read Certs ≡ before Certs → Sent certificate (read Certs) (now Certs) → Sent line (read Out) (now Out)
-        → run.sheet ≡ sheet → run.count ≡ 0 → HasOpened rules StandsAt feed before run now
-    opening_sent feed events certificate line sheet run before read now says opens out_same certs_same certs_sent out_sent sheet_is zero = record {
+        → run.sheet ≡ sheet → run.count ≡ 0 → HasOpened rules StandsAt held feed before run now
+    opening_sent held feed events certificate line sheet run before read now says were_read opens out_same certs_same certs_sent out_sent sheet_is zero = record {
       events = events;
       feed_is = says;
+      events_read = were_read;
       answer = opens.answer;
       is_opening = opens.is_opening;
       sheet = subst (λ (s : S). StandsAt s opens.answer []) (sym sheet_is) opens.stands;
       count = zero;
-      certs = subst (λ (t : Text). Sent t (before Certs) (now Certs)) opens.certificate_is (subst (λ (t : Told). Sent certificate t (now Certs)) certs_same certs_sent);
+      certs = subst (λ (t : Text). Sent t (before Certs) (now Certs)) opens.certificate_is
+          (subst (λ (t : Told). Sent certificate t (now Certs)) certs_same certs_sent);
       out = subst (λ (t : Text). Sent t (before Out) (now Out)) opens.line_is (subst (λ (t : Told). Sent line t (now Out)) out_same out_sent);
     }
 
     -- no line of positions was read yet
-    pub starts : (feed : Option Reading) (positions : Option TextLines) (before : Slot → Told) (run : PositionRun S) (now : Slot → Told) (rest : Option TextLines)
-        → HasOpened rules StandsAt feed before run now → rest ≡ positions → IsSettling rules StandsAt feed positions before run now rest
-    starts feed positions before run now rest opened same = record {
+    pub starts : (held : Held) (feed : Option Reading) (positions : Option TextLines) (before : Slot → Told) (run : PositionRun S) (ahead : PositionLines)
+        (now : Slot → Told)
+        (rest : Option TextLines) → HasOpened rules StandsAt held.feed feed before run now → rest ≡ positions → HasGivenLines [] held.side ahead now
+        → IsSettling rules StandsAt held feed positions before run ahead now rest
+    starts held feed positions before run ahead now rest opened same given = record {
       events = opened.events;
       feed_is = opened.feed_is;
+      events_read = opened.events_read;
       answer = opened.answer;
       is_opening = opened.is_opening;
       items = [];
       lines = [];
       are_first = first_told positions ∙ ap (option_map (lines_then [])) (sym same);
+      lines_read = given;
       steps = refl;
       sheet = opened.sheet;
       count = opened.count;
@@ -283,20 +365,29 @@ module _ {A I : Type 0} (rules : PositionRules A I) where
       out = subst (λ (t : Text). Sent t (before Out) (now Out)) (sym (settled_none opened.answer)) opened.out;
     }
 
-    module _ (feed : Option Reading) (positions : Option TextLines) (before : Slot → Told) where
+    module _ (held : Held) (feed : Option Reading) (positions : Option TextLines) (before : Slot → Told) where
       -- ---- one line more
 
+      -- the events were read still
+      still_read : (events : List Event) (between now : Slot → Told) → EventsRead events held.feed (between Feed) → now Feed ≡ between Feed
+          → EventsRead events held.feed (now Feed)
+      still_read events between now read same = subst (λ (t : Told). EventsRead events held.feed t) (sym same) read
+
       -- the output and the file of certificates did not change
-      pub way_kept : (run : PositionRun S) (between now : Slot → Told) (rest : Option TextLines) → IsSettling rules StandsAt feed positions before run between rest
-          → now Out ≡ between Out → now Certs ≡ between Certs → IsSettling rules StandsAt feed positions before run now rest
-      way_kept run between now rest way out_same certs_same = record {
+      pub way_kept : (run : PositionRun S) (old ahead : PositionLines) (between now : Slot → Told) (rest : Option TextLines)
+          (way : IsSettling rules StandsAt held feed positions before run old between rest) → now Feed ≡ between Feed → now Out ≡ between Out
+          → now Certs ≡ between Certs
+          → HasGivenLines way.lines held.side ahead now → IsSettling rules StandsAt held feed positions before run ahead now rest
+      way_kept run old ahead between now rest way feed_same out_same certs_same given = record {
         events = way.events;
         feed_is = way.feed_is;
+        events_read = still_read way.events between now way.events_read feed_same;
         answer = way.answer;
         is_opening = way.is_opening;
         items = way.items;
         lines = way.lines;
         are_first = way.are_first;
+        lines_read = given;
         steps = way.steps;
         sheet = way.sheet;
         count = way.count;
@@ -305,24 +396,28 @@ module _ {A I : Type 0} (rules : PositionRules A I) where
       }
 
       -- the next line is settled
-      pub settled_on : (old run : PositionRun S) (between now : Slot → Told) (rest new : Option TextLines) (text : List ℕ)
-          (way : IsSettling rules StandsAt feed positions before old between rest) → rest ≡ option_map (line_then text) new → now Certs ≡ between Certs
+      pub settled_on : (old run : PositionRun S) (from ahead : PositionLines) (between now : Slot → Told) (rest new : Option TextLines) (text : List ℕ)
+          (way : IsSettling rules StandsAt held feed positions before old from between rest) → rest ≡ option_map (line_then text) new → now Feed ≡ between Feed
+          → now Certs ≡ between Certs → HasGivenLines (way.lines ++ text ∷ []) held.side ahead now
           → run.count ≡ old.count + 1 → SendsItem rules StandsAt way.answer way.items text run (between Out) (now Out)
-          → IsSettling rules StandsAt feed positions before run now new
-      settled_on old run between now rest new text way is certs_same more sends = record {
+          → IsSettling rules StandsAt held feed positions before run ahead now new
+      settled_on old run from ahead between now rest new text way is feed_same certs_same given more sends = record {
         events = way.events;
         feed_is = way.feed_is;
+        events_read = still_read way.events between now way.events_read feed_same;
         answer = way.answer;
         is_opening = way.is_opening;
         items = way.items ++ sends.item ∷ [];
         lines = way.lines ++ text ∷ [];
         are_first = first_more positions rest new way.lines text way.are_first is;
+        lines_read = given;
         steps = along_more (Settles rules way.answer) [] way.lines text way.items (way.items ++ sends.item ∷ []) way.steps (sends.item, sends.comes, refl);
         sheet = sends.stands;
         count = more ∙ one_more way.items sends.item way.count;
         certs = sent_still (rules.certificate way.answer) (before Certs) (between Certs) (now Certs) way.certs certs_same;
         out = subst (λ (t : Text). Sent t (before Out) (now Out)) (sym (settled_more way.answer way.items sends.item))
-            (sent_more (settled_text rules way.answer way.items) (rules.item_line (length way.items + 1) sends.item) (before Out) (between Out) (now Out) way.out sends.sent);
+            (sent_more (settled_text rules way.answer way.items) (rules.item_line (length way.items + 1) sends.item) (before Out) (between Out)
+            (now Out) way.out sends.sent);
       }
         where
           one_more : (items : List I) (item : I) → old.count ≡ length items → old.count + 1 ≡ length (items ++ item ∷ [])
@@ -335,10 +430,11 @@ module _ {A I : Type 0} (rules : PositionRules A I) where
       -- ---- ends
 
       -- nothing more was sent, and the run is cut off
-      pub cut_short : (run : PositionRun S) (between now : Slot → Told) (rest : Option TextLines) (exit : Exit)
-          → IsSettling rules StandsAt feed positions before run between rest → now Out ≡ between Out → now Certs ≡ between Certs → is_cut exit ≡ true
-          → HasEndedPositions rules feed positions before now exit
-      cut_short run between now rest exit way out_same certs_same cut =
+      pub cut_short : (run : PositionRun S) (ahead : PositionLines) (between now : Slot → Told) (rest : Option TextLines) (exit : Exit)
+          (way : IsSettling rules StandsAt held feed positions before run ahead between rest) → now Feed ≡ between Feed → now Out ≡ between Out
+          → now Certs ≡ between Certs
+          → StopsReading way.lines held.side (now Side) exit → is_cut exit ≡ true → HasEndedPositions rules held feed positions before now exit
+      cut_short run ahead between now rest exit way feed_same out_same certs_same stops cut =
           let after = some_left rest in
           let text = settled_text rules way.answer way.items in
           record {
@@ -352,14 +448,29 @@ module _ {A I : Type 0} (rules : PositionRules A I) where
                 way.is_opening way.steps (inl refl) refl (append-nil (rules.certificate way.answer)) (inr refl) cut;
             out_sent = sent_still text (before Out) (between Out) (now Out) way.out out_same;
             certs_sent = sent_still (rules.certificate way.answer) (before Certs) (between Certs) (now Certs) way.certs certs_same;
+            cut = λ is. inr (lines_settled held feed positions now exit way.events way.answer way.items way.lines way.feed_is
+                (still_read way.events between now way.events_read feed_same) way.is_opening way.steps stops);
           }
 
+      -- memory is wanting where nothing more was read
+      pub memory_short : (run : PositionRun S) (ahead : PositionLines) (between now : Slot → Told) (rest : Option TextLines) (exit : Exit)
+          → IsSettling rules StandsAt held feed positions before run ahead between rest → now Feed ≡ between Feed → now Side ≡ between Side
+          → now Out ≡ between Out
+          → now Certs ≡ between Certs → exit ≡ WantsMemory → HasEndedPositions rules held feed positions before now exit
+      memory_short run ahead between now rest exit way feed_same side_same out_same certs_same is =
+          cut_short run ahead between now rest exit way feed_same out_same certs_same
+          (record {
+            were_read = given_read way.lines held.side ahead now (given_kept way.lines held.side ahead between now side_same way.lines_read);
+            cut = λ failed. memory_not_side (sym is ∙ failed);
+          }) (ap is_cut is)
+
       -- the next line is bad
-      bad_end : (run : PositionRun S) (between now : Slot → Told) (rest : Option TextLines) (left : TextLines) (number : ℕ) (why : PositionCause)
-          (way : IsSettling rules StandsAt feed positions before run between rest) → now Out ≡ between Out → now Certs ≡ between Certs
+      bad_end : (run : PositionRun S) (ahead : PositionLines) (between now : Slot → Told) (rest : Option TextLines) (left : TextLines) (number : ℕ)
+          (why : PositionCause)
+          (way : IsSettling rules StandsAt held feed positions before run ahead between rest) → now Out ≡ between Out → now Certs ≡ between Certs
           → number ≡ length way.items + 1 → IfSome rest (λ r. r ≡ left) → NextIsBad rules way.answer left why
-          → HasEndedPositions rules feed positions before now (BadPositions number why)
-      bad_end run between now rest left number why way out_same certs_same numbered is bad =
+          → HasEndedPositions rules held feed positions before now (BadPositions number why)
+      bad_end run ahead between now rest left number why way out_same certs_same numbered is bad =
           let text = settled_text rules way.answer way.items in
           record {
             over = all_good way.events;
@@ -380,29 +491,33 @@ module _ {A I : Type 0} (rules : PositionRules A I) where
             };
             out_sent = sent_still text (before Out) (between Out) (now Out) way.out out_same;
             certs_sent = sent_still (rules.certificate way.answer) (before Certs) (between Certs) (now Certs) way.certs certs_same;
+            cut = λ is. absurd (let no : ⊥ = cc in no);
           }
 
       -- it is no line, or one too many
-      pub line_bad : (run : PositionRun S) (between now : Slot → Told) (rest : Option TextLines) (left : TextLines) (exit : Exit) (why : PositionCause)
-          → IsSettling rules StandsAt feed positions before run between rest → now Out ≡ between Out → now Certs ≡ between Certs
+      pub line_bad : (run : PositionRun S) (ahead : PositionLines) (between now : Slot → Told) (rest : Option TextLines) (left : TextLines) (exit : Exit)
+          (why : PositionCause)
+          → IsSettling rules StandsAt held feed positions before run ahead between rest → now Out ≡ between Out → now Certs ≡ between Certs
           → exit ≡ BadPositions (run.count + 1) why → IfSome rest (λ r. r ≡ left) → ((answer : A) → NextIsBad rules answer left why)
-          → HasEndedPositions rules feed positions before now exit
-      line_bad run between now rest left exit why way out_same certs_same exit_is is bad =
-          subst (λ (e : Exit). HasEndedPositions rules feed positions before now e) (sym exit_is)
-          (bad_end run between now rest left (run.count + 1) why way out_same certs_same (ap (λ n. n + 1) way.count) is (bad way.answer))
+          → HasEndedPositions rules held feed positions before now exit
+      line_bad run ahead between now rest left exit why way out_same certs_same exit_is is bad =
+          subst (λ (e : Exit). HasEndedPositions rules held feed positions before now e) (sym exit_is)
+          (bad_end run ahead between now rest left (run.count + 1) why way out_same certs_same (ap (λ n. n + 1) way.count) is (bad way.answer))
 
       -- the run ended at a line
-      pub line_ended : (old run : PositionRun S) (between now : Slot → Told) (rest new : Option TextLines) (text : List ℕ) (exit : Exit)
-          (way : IsSettling rules StandsAt feed positions before old between rest) → rest ≡ option_map (line_then text) new → now Certs ≡ between Certs
+      pub line_ended : (old run : PositionRun S) (ahead : PositionLines) (between now : Slot → Told) (rest new : Option TextLines) (text : List ℕ) (exit : Exit)
+          (way : IsSettling rules StandsAt held feed positions before old ahead between rest) → rest ≡ option_map (line_then text) new → now Feed ≡ between Feed
+          → now Side ≡ between Side → now Certs ≡ between Certs → WereRead (way.lines ++ text ∷ []) held.side (now Side)
           → SettlesLine rules StandsAt way.answer way.items text run (between Out) (now Out) (Err exit)
-          → HasEndedPositions rules feed positions before now exit
-      line_ended old run between now rest new text exit way is certs_same (inl (inl cut, same)) = cut_short old between now rest exit way same certs_same cut
-      line_ended old run between now rest new text exit way is certs_same (inl (inr h, same)) =
+          → HasEndedPositions rules held feed positions before now exit
+      line_ended old run ahead between now rest new text exit way is feed_same side_same certs_same read (inl (inl wants, same)) =
+          memory_short old ahead between now rest exit way feed_same side_same same certs_same wants
+      line_ended old run ahead between now rest new text exit way is feed_same side_same certs_same read (inl (inr h, same)) =
           let after = some_left new in
-          subst (λ (e : Exit). HasEndedPositions rules feed positions before now e) (sym h.exit_is)
-          (bad_end old between now rest (line_then text after.left) (length way.items + 1) (cause.Fault h.fault) way same certs_same refl
+          subst (λ (e : Exit). HasEndedPositions rules held feed positions before now e) (sym h.exit_is)
+          (bad_end old ahead between now rest (line_then text after.left) (length way.items + 1) (cause.Fault h.fault) way same certs_same refl
           (next_left rest new text after is) (text, after.left, refl, h.comes))
-      line_ended old run between now rest new text exit way is certs_same (inr h) =
+      line_ended old run ahead between now rest new text exit way is feed_same side_same certs_same read (inr h) =
           let after = some_left new in
           let line = rules.item_line (length way.items + 1) h.item in
           let first = settled_text rules way.answer way.items in
@@ -411,30 +526,44 @@ module _ {A I : Type 0} (rules : PositionRules A I) where
             over = all_good way.events;
             feed_is = way.feed_is;
             lines = lines_then (way.lines ++ text ∷ []) after.left;
-            lines_are = said_first positions new (way.lines ++ text ∷ []) after.left (first_more positions rest new way.lines text way.are_first is) after.left_is;
+            lines_are = said_first positions new (way.lines ++ text ∷ []) after.left
+                (first_more positions rest new way.lines text way.are_first is) after.left_is;
             out = first ++ take h.cut.part.count line;
             certs = rules.certificate way.answer;
-            runs = gives_part way.events way.answer items (way.lines ++ text ∷ []) after.left [] (first ++ take h.cut.part.count line) (drop h.cut.part.count line)
+            runs = gives_part way.events way.answer items (way.lines ++ text ∷ []) after.left [] (first ++ take h.cut.part.count line)
+                (drop h.cut.part.count line)
                 (rules.certificate way.answer) [] exit way.is_opening
                 (along_more (Settles rules way.answer) [] way.lines text way.items items way.steps (h.item, h.comes, refl)) (inl refl)
-                (append_part first line h.cut.part.count ∙ sym (settled_more way.answer way.items h.item) ∙ sym (append-nil (settled_text rules way.answer items)))
+                (append_part first line h.cut.part.count ∙ sym (settled_more way.answer way.items h.item)
+                ∙ sym (append-nil (settled_text rules way.answer items)))
                 (append-nil (rules.certificate way.answer)) (inr refl) (ap is_cut h.cut.exit_is);
             out_sent = sent_more first (take h.cut.part.count line) (before Out) (between Out) (now Out) way.out h.cut.part.sent;
             certs_sent = sent_still (rules.certificate way.answer) (before Certs) (between Certs) (now Certs) way.certs certs_same;
+            cut = λ cut. inr (part_settled held feed positions now Out exit way.events way.answer items (way.lines ++ text ∷ []) []
+                (first ++ take h.cut.part.count line)
+                (rules.certificate way.answer) h.cut.exit_is way.feed_is (still_read way.events between now way.events_read feed_same) way.is_opening
+                (along_more (Settles rules way.answer) [] way.lines text way.items items way.steps (h.item, h.comes, refl)) read (inl refl) (
+                  drop h.cut.part.count line,
+                  sym (append_part first line h.cut.part.count ∙ sym (settled_more way.answer way.items h.item)
+                      ∙ sym (append-nil (settled_text rules way.answer items))),
+                )
+                ([], sym (append-nil (rules.certificate way.answer))));
           }
 
       -- ---- behind the last line
 
       -- memory is wanting for the last lines
-      pub last_wanting : (run : PositionRun S) (now : Slot → Told) (exit : Exit) → IsThroughPositions rules StandsAt feed positions before run now → is_cut exit ≡ true
-          → HasEndedPositions rules feed positions before now exit
-      last_wanting run now exit (rest, way, none) cut = cut_short run now now rest exit way refl refl cut
+      pub last_wanting : (run : PositionRun S) (now : Slot → Told) (exit : Exit) → IsThroughPositions rules StandsAt held feed positions before run now
+          → exit ≡ WantsMemory
+          → HasEndedPositions rules held feed positions before now exit
+      last_wanting run now exit (ahead, rest, way, none) wants = memory_short run ahead now now rest exit way refl refl refl refl wants
 
       -- they are sent
-      pub last_sent : (run : PositionRun S) (between now : Slot → Told) (text : Text) (through : IsThroughPositions rules StandsAt feed positions before run between)
-          → now Certs ≡ between Certs → text ≡ rules.last_lines through.1.answer through.1.items → Sent text (between Out) (now Out)
-          → HasEndedPositions rules feed positions before now Done
-      last_sent run between now text (rest, way, none) certs_same is sent =
+      pub last_sent : (run : PositionRun S) (between now : Slot → Told) (text : Text)
+          (through : IsThroughPositions rules StandsAt held feed positions before run between)
+          → now Certs ≡ between Certs → text ≡ rules.last_lines through.2.answer through.2.items → Sent text (between Out) (now Out)
+          → HasEndedPositions rules held feed positions before now Done
+      last_sent run between now text (ahead, rest, way, none) certs_same is sent =
           let first = settled_text rules way.answer way.items in
           let last = rules.last_lines way.answer way.items in
           record {
@@ -456,13 +585,15 @@ module _ {A I : Type 0} (rules : PositionRules A I) where
             };
             out_sent = sent_more first last (before Out) (between Out) (now Out) way.out (subst (λ (t : Text). Sent t (between Out) (now Out)) is sent);
             certs_sent = sent_still (rules.certificate way.answer) (before Certs) (between Certs) (now Certs) way.certs certs_same;
+            cut = λ cut. done_not_cut cut;
           }
 
       -- or a write of them fails
-      pub last_cut : (run : PositionRun S) (between now : Slot → Told) (text : Text) (exit : Exit) (through : IsThroughPositions rules StandsAt feed positions before run between)
-          → now Certs ≡ between Certs → text ≡ rules.last_lines through.1.answer through.1.items → CutsOff Out text (between Out) (now Out) exit
-          → HasEndedPositions rules feed positions before now exit
-      last_cut run between now text exit (rest, way, none) certs_same is cut =
+      pub last_cut : (run : PositionRun S) (between now : Slot → Told) (text : Text) (exit : Exit)
+          (through : IsThroughPositions rules StandsAt held feed positions before run between)
+          → now Feed ≡ between Feed → now Side ≡ between Side → now Certs ≡ between Certs → text ≡ rules.last_lines through.2.answer through.2.items
+          → CutsOff Out text (between Out) (now Out) exit → HasEndedPositions rules held feed positions before now exit
+      last_cut run between now text exit (ahead, rest, way, none) feed_same side_same certs_same is cut =
           let first = settled_text rules way.answer way.items in
           let last = rules.last_lines way.answer way.items in
           record {
@@ -478,6 +609,11 @@ module _ {A I : Type 0} (rules : PositionRules A I) where
             out_sent = sent_more first (take cut.part.count last) (before Out) (between Out) (now Out) way.out
                 (subst (λ (t : Text). Sent (take cut.part.count t) (between Out) (now Out)) is cut.part.sent);
             certs_sent = sent_still (rules.certificate way.answer) (before Certs) (between Certs) (now Certs) way.certs certs_same;
+            cut = λ off. inr (part_settled held feed positions now Out exit way.events way.answer way.items way.lines last (first ++ take cut.part.count last)
+                (rules.certificate way.answer) cut.exit_is way.feed_is (still_read way.events between now way.events_read feed_same) way.is_opening way.steps
+                (given_read way.lines held.side ahead now (given_kept way.lines held.side ahead between now side_same way.lines_read))
+                (inr (said_first positions rest way.lines (ended at_end) way.are_first none, refl))
+                (drop cut.part.count last, sym (append_part first last cut.part.count)) ([], sym (append-nil (rules.certificate way.answer))));
           }
 
 -- ---- as many lines as there may be
@@ -489,7 +625,8 @@ allowed_kept count old new before after same = ap (option_map (at_most (POSITION
 
 -- the next line, of those that there may be
 pub allowed_step : (count more : ℕ) (old new : PositionLines) (before after : Slot → Told)
-    → IsPositionLines old → old.taken < length old.table → new ≡ record old { taken = old.taken + 1 } → after Side ≡ before Side → more ≡ count + 1 → count < POSITION_LINES_MAX
+    → IsPositionLines old → old.taken < length old.table → new ≡ record old { taken = old.taken + 1 } → after Side ≡ before Side → more ≡ count + 1
+    → count < POSITION_LINES_MAX
     → allowed_positions count old before ≡ option_map (line_then (get_or old.block old.taken [])) (allowed_positions more new after)
 allowed_step count more old new before after is below next same size few =
     allowed_line (POSITION_LINES_MAX - count) (POSITION_LINES_MAX - more) (get_or old.block old.taken []) (lines_coming old before) (lines_coming new after)
@@ -513,7 +650,8 @@ FaultsUnsplit {A} {I} rules = (answer : A) (text : List ℕ) (f : PositionFault)
 
 -- what stands in place of a line, by its ending
 place_left : {A I : Type 0} (rules : PositionRules A I) (most : ℕ) (ending : Ending) (why given : PositionCause) (o : Option TextLines)
-    → ((answer : A) → NextIsBad rules answer (ended ending) why) → Some why ≡ Some given → BadNext rules (option_map (at_most most) (option_map (λ (text : TextLines). ended ending) o)) given
+    → ((answer : A) → NextIsBad rules answer (ended ending) why) → Some why ≡ Some given
+    → BadNext rules (option_map (at_most most) (option_map (λ (text : TextLines). ended ending) o)) given
 place_left rules most ending why given o bad is = record {
   left = ended ending;
   left_is = allowed_ended most ending (option_map (λ (text : TextLines). ended ending) o) (always o);
@@ -544,7 +682,8 @@ bad_rest rules count last (Unsplit f) false why o faults is full few bad =
       left = line_then last after.left;
       left_is = next_left (option_map (at_most (POSITION_LINES_MAX - count)) (option_map (line_then last) o)) rest last after
           (allowed_line (POSITION_LINES_MAX - count) (POSITION_LINES_MAX - (count + 1)) last (option_map (line_then last) o) o refl (omega (arith, less)));
-      bad = λ answer. subst (λ (w : PositionCause). NextIsBad rules answer (line_then last after.left) w) (same_some bad) (last, after.left, refl, faults answer last f is.0);
+      bad = λ answer. subst (λ (w : PositionCause). NextIsBad rules answer (line_then last after.left) w) (same_some bad)
+          (last, after.left, refl, faults answer last f is.0);
     }
 bad_rest rules count last TooLong is_full why o faults is full few bad =
     place_left rules (POSITION_LINES_MAX - count) too_long cause.TooLong why o (λ answer. refl) bad
@@ -552,7 +691,8 @@ bad_rest rules count last NoEol is_full why o faults is full few bad =
     place_left rules (POSITION_LINES_MAX - count) no_eol cause.NoEol why o (λ answer. refl) bad
 
 pub bad_next : {A I : Type 0} (rules : PositionRules A I) (count : ℕ) (p : PositionLines) (told : Slot → Told) (why : PositionCause)
-    → FaultsUnsplit rules → IsPositionLines p → length p.table ≤ p.taken → count ≤ POSITION_LINES_MAX → cause_behind p.rest (count == POSITION_LINES_MAX) ≡ Some why
+    → FaultsUnsplit rules → IsPositionLines p → length p.table ≤ p.taken → count ≤ POSITION_LINES_MAX
+    → cause_behind p.rest (count == POSITION_LINES_MAX) ≡ Some why
     → BadNext rules (allowed_positions count p told) why
 bad_next rules count p told why faults is taken few bad =
     subst (λ (o : Option TextLines). BadNext rules (option_map (at_most (POSITION_LINES_MAX - count)) o) why) (sym (none_left p told is taken))
@@ -563,7 +703,8 @@ pub none_next : (count : ℕ) (p : PositionLines) (told : Slot → Told) → IsP
     → IfSome (allowed_positions count p told) (λ lines. lines ≡ ended at_end)
 none_next count p told is taken end =
     allowed_ended (POSITION_LINES_MAX - count) at_end (lines_coming p told)
-    (subst (λ (o : Option TextLines). IfSome o (λ r. r ≡ ended at_end)) (sym (none_left p told is taken ∙ ap (λ (r : Rest). option_map (behind p.lines.last_bytes r) (coming p.lines told)) end))
+    (subst (λ (o : Option TextLines). IfSome o (λ r. r ≡ ended at_end)) (sym (none_left p told is taken
+    ∙ ap (λ (r : Rest). option_map (behind p.lines.last_bytes r) (coming p.lines told)) end))
     (always (coming p.lines told)))
   where
     always : (o : Option TextLines) → IfSome (option_map (behind p.lines.last_bytes End) o) (λ r. r ≡ ended at_end)
@@ -580,16 +721,19 @@ allowed_all count p told zero is =
     ∙ sym (twice (lines_of POSITION_LINE_LEN_MAX) (at_most POSITION_LINES_MAX) (told Side).left)
 
 -- the exit of a feed that is not read to its end is one of such a run
-pub stop_exit : {B : Type 0} (StandsFor : B → List Event → Type 0) (feed : Option Reading) (reader : FeedReader B) (told : Slot → Told) (why : FeedStop)
-    → ReadsAll StandsFor feed reader told (Err why) → IsPositionExit (exit_of_stop why)
-stop_exit StandsFor feed reader told (stop.BadLine line why) reads = reads.0
-stop_exit StandsFor feed reader told stop.Device reads = tt
-stop_exit StandsFor feed reader told stop.NoMemory reads = tt
+pub stop_exit : {B : Type 0} (StandsFor : B → List Event → Type 0) (held : Option (List ℕ)) (feed : Option Reading) (reader : FeedReader B)
+    (told : Slot → Told) (why : FeedStop)
+    → ReadsAll StandsFor held feed reader told (Err why) → IsPositionExit (exit_of_stop why)
+stop_exit StandsFor held feed reader told (stop.BadLine line why) reads = reads.0
+stop_exit StandsFor held feed reader told stop.Device reads = tt
+stop_exit StandsFor held feed reader told stop.NoMemory reads = tt
 
 -- the positions of a run whose opening was answered are all to come
-pub starts_open : {A I S : Type 0} (rules : PositionRules A I) (StandsAt : S → A → List I → Type 0) (before now : Slot → Told) (run : PositionRun S) (p : PositionLines)
-    → HasOpened rules StandsAt (feed_told before) before run now → now Side ≡ before Side → IsFreshLines p
-    → IsSettling rules StandsAt (feed_told before) (positions_told before) before run now (allowed_positions run.count p now)
+pub starts_open : {A I S : Type 0} (rules : PositionRules A I) (StandsAt : S → A → List I → Type 0) (before now : Slot → Told) (run : PositionRun S)
+    (p : PositionLines)
+    → HasOpened rules StandsAt (held_by before).feed (feed_told before) before run now → now Side ≡ before Side → IsFreshLines p
+    → IsSettling rules StandsAt (held_by before) (feed_told before) (positions_told before) before run p now (allowed_positions run.count p now)
 starts_open rules StandsAt before now run p opened same is =
-    starts rules StandsAt (feed_told before) (positions_told before) before run now (allowed_positions run.count p now) opened
+    starts rules StandsAt (held_by before) (feed_told before) (positions_told before) before run p now (allowed_positions run.count p now) opened
     (allowed_all run.count p now opened.count is ∙ ap (λ (t : Told). option_map positions_of t.left) same)
+    (none_given (held_by before).side p now is (ap (λ (t : Told). t.left) (sym same)))

@@ -11,13 +11,17 @@ use Rattle.vx_feed.specs.declared.events.Event.{Event}
 use Rattle.vx_feed.specs.Feed.{Reading}
 use Rattle.vx_feed.specs.declared.limits.TheConstants.{LINES_MAX}
 use Rattle.vx_reading.specs.declared.feed.FeedReader.{FeedReader}
-use Rattle.vx_reading.specs.FeedReading.{IsAt}
+use Rattle.vx_reading.specs.declared.stop.FeedStop.{FeedStop}
+use Rattle.vx_reading.specs.declared.stop.FeedStop.TheVariants as stop
+use Rattle.vx_reading.specs.FeedReading.{IsAt, ReadsNext}
 use Rattle.vx_reading.proofs.FeedLemmas.{at_kept}
 use Rattle.vx_drivers.specs.declared.exit.Exit.{Exit}
 use Rattle.vx_drivers.specs.declared.tick_run.TickRun.{TickRun}
 use Rattle.vx_drivers.specs.declared.ticks.Tally.{Tally}
 use Rattle.vx_drivers.specs.Along.{Along}
+use Rattle.vx_drivers.specs.Exits.{exit_of_stop}
 use Rattle.vx_drivers.specs.Sending.{Sent, Text}
+use Rattle.vx_drivers.specs.TickExits.{IsTickExit}
 use Rattle.vx_drivers.specs.TickRun.{TickRules, TickStand, TakesEvent, counts_line, counts_text, no_events, one_more, published_count, refused_count, undecided_count}
 use Rattle.vx_drivers.specs.TickSteps.{AnswersEvent, GivesTexts, HasCounted, IsWrittenAs, IsAtEvent, SendsBoth, SendsTick, TALLY_MAX, answers_counted}
 use Rattle.vx_drivers.proofs.AlongLemmas.{along_more}
@@ -42,24 +46,33 @@ count_one f xs a = sum_by-append f xs (a ∷ []) ∙ ap (λ n. sum_by f xs + n) 
 
 -- ---- a run between events
 
-pub few_read : {T : Type 0} (StandsFor : T → List Event → Type 0) (feed : Option Reading) (events : List Event)
-    (reader : FeedReader T) (told : Slot → Told) → IsAt StandsFor feed events reader told → reader.count ≤ LINES_MAX
-few_read StandsFor feed events reader told at =
+pub few_read : {T : Type 0} (StandsFor : T → List Event → Type 0) (held : Option (List ℕ)) (feed : Option Reading) (events : List Event)
+    (reader : FeedReader T) (told : Slot → Told) → IsAt StandsFor held feed events reader told → reader.count ≤ LINES_MAX
+few_read StandsFor held feed events reader told at =
     let count : reader.count ≡ length events = at.taken_up.count in
     let few : length events ≤ LINES_MAX = at.taken_up.few in
     omega (arith, count, few)
 
 -- one event more is read
-pub one_read : {T : Type 0} (StandsFor : T → List Event → Type 0) (feed : Option Reading) (events : List Event)
+pub one_read : {T : Type 0} (StandsFor : T → List Event → Type 0) (held : Option (List ℕ)) (feed : Option Reading) (events : List Event)
     (event : Event) (old new : FeedReader T) (before after : Slot → Told)
-    → IsAt StandsFor feed events old before → IsAt StandsFor feed (events ++ event ∷ []) new after
+    → IsAt StandsFor held feed events old before → IsAt StandsFor held feed (events ++ event ∷ []) new after
     → new.count ≡ old.count + 1
-one_read StandsFor feed events event old new before after at more =
+one_read StandsFor held feed events event old new before after at more =
     let count : old.count ≡ length events = at.taken_up.count in
     let next : new.count ≡ length (events ++ event ∷ []) = more.taken_up.count in
     let size = length_push events event in
     omega (arith, count, next, size)
 
+-- a feed that is not read on ends the run with an exit of such runs
+pub stop_exit : {T : Type 0} (StandsFor : T → List Event → Type 0) (held : Option (List ℕ)) (feed : Option Reading)
+    (events : List Event) (reader : FeedReader T) (told : Slot → Told) (why : FeedStop)
+    → ReadsNext StandsFor held feed events reader told (Err why) → IsTickExit (exit_of_stop why)
+stop_exit StandsFor held feed events reader told (stop.BadLine number why) (numbered, is_cause, says) = is_cause
+stop_exit StandsFor held feed events reader told stop.Device reads = tt
+stop_exit StandsFor held feed events reader told stop.NoMemory reads = tt
+
+-- the counts stay those of the answers
 pub counted_same : {A T : Type 0} (rules : TickRules A) (stand : TickStand A) (old run : TickRun T)
     → run.published ≡ old.published → run.undecided ≡ old.undecided → run.refused ≡ old.refused
     → HasCounted rules stand old → HasCounted rules stand run
@@ -89,7 +102,7 @@ pub steps_more : {A : Type 0} (rules : TickRules A) (stand : TickStand A) (event
 steps_more rules stand event said h gives =
     along_more (TakesEvent rules) no_events stand.events event stand (one_more stand event said) h (said, gives, refl)
 
-module _ {A T : Type 0} (rules : TickRules A) (StandsFor : T → List Event → Type 0) (feed : Option Reading)
+module _ {A T : Type 0} (rules : TickRules A) (StandsFor : T → List Event → Type 0) (held : Option (List ℕ)) (feed : Option Reading)
     (stand : TickStand A) (event : Event) where
   counted_none : (old run : TickRun T) → run.published ≡ old.published → run.undecided ≡ old.undecided
       → run.refused ≡ old.refused
@@ -126,14 +139,14 @@ module _ {A T : Type 0} (rules : TickRules A) (StandsFor : T → List Event → 
       }
 
   -- the event is no tick
-  pub no_tick : (old run : TickRun T) (told : Slot → Told) → IsAtEvent rules StandsFor feed stand event old told
+  pub no_tick : (old run : TickRun T) (told : Slot → Told) → IsAtEvent rules StandsFor held feed stand event old told
       → run.feed ≡ old.feed
       → run.published ≡ old.published → run.undecided ≡ old.undecided → run.refused ≡ old.refused
-      → rules.IsGiven (stand.events ++ event ∷ []) None → SendsTick rules StandsFor feed stand event run told told
+      → rules.IsGiven (stand.events ++ event ∷ []) None → SendsTick rules StandsFor held feed stand event run told told
   no_tick old run told at same p u r gives = record {
     said = None;
     between = record {
-      at = subst (λ f. IsAt StandsFor feed (stand.events ++ event ∷ []) f told) (sym same) at.at;
+      at = subst (λ f. IsAt StandsFor held feed (stand.events ++ event ∷ []) f told) (sym same) at.at;
       steps = steps_more rules stand event None at.steps gives;
       counted = counted_none old run p u r at.counted;
     };
@@ -152,20 +165,20 @@ module _ {A T : Type 0} (rules : TickRules A) (StandsFor : T → List Event → 
   -- its answer was sent, or a write of it failed
   pub tick_sent : (old run : TickRun T) (certificate line : Text) (tally : Tally) (before after : Slot → Told)
       (result : Result Unit Exit)
-      → IsAtEvent rules StandsFor feed stand event old before → run.feed ≡ old.feed
+      → IsAtEvent rules StandsFor held feed stand event old before → run.feed ≡ old.feed
       → run.published ≡ old.published + tally.published → run.undecided ≡ old.undecided + tally.undecided
       → run.refused ≡ old.refused + tally.refused
       → answers_counted run ≤ answers_counted old + TALLY_MAX
       → GivesTexts rules (stand.events ++ event ∷ []) certificate line (Some tally) → after Feed ≡ before Feed
       → SendsBoth certificate line before after result
-      → AnswersEvent rules StandsFor feed stand event run before after result
+      → AnswersEvent rules StandsFor held feed stand event run before after result
   tick_sent old run certificate line tally before after (Ok u) at same p un r few (answer, gives, is) kept sends =
       let sent = both_are certificate line tally answer before after (Ok u) is sends in
       record {
         said = Some answer;
         between = record {
-          at = at_kept StandsFor feed (stand.events ++ event ∷ []) run.feed before after
-              (subst (λ f. IsAt StandsFor feed (stand.events ++ event ∷ []) f before) (sym same) at.at) kept;
+          at = at_kept StandsFor held feed (stand.events ++ event ∷ []) run.feed before after
+              (subst (λ f. IsAt StandsFor held feed (stand.events ++ event ∷ []) f before) (sym same) at.at) kept;
           steps = steps_more rules stand event (Some answer) at.steps gives;
           counted = counted_one old run answer tally is.tally_is p un r few at.counted;
         };

@@ -1,6 +1,7 @@
 -- A run that answers ticks, from its start to its end.
 use Rattle.std.proofs.Common.{◌≡◌, ◌∙◌, sym, ap, subst, refl, ℕ, ◌⊎◌, inl, inr, true, false, List, [], ◌∷◌, ◌++◌, length, take, drop, map, Option, Some, None, IfSome, arith, Err}
 use Rattle.std.specs.List.{concat}
+use Rattle.std.specs.Io.KnownBytes.{prepend_known}
 use Rattle.std.specs.Option.{option_to_list}
 use Rattle.std.proofs.lemmas.List.{append-nil, append_assoc, take-append-drop}
 use Rattle.vx_desk.specs.declared.device.Slot.{Slot}
@@ -11,10 +12,11 @@ use Rattle.vx_feed.specs.Feed.{Reading, stopped_at}
 use Rattle.vx_reading.specs.declared.feed.FeedReader.{FeedReader}
 use Rattle.vx_reading.specs.declared.stop.FeedStop.{FeedStop}
 use Rattle.vx_reading.specs.declared.stop.FeedStop.TheVariants as stop
-use Rattle.vx_reading.specs.FeedReading.{IsAt, IsReadTo, ReadsNext, Says, all_good, feed_told}
+use Rattle.vx_reading.specs.FeedReading.{IsAt, IsCutBehind, IsReadTo, ReadsNext, Says, all_good, feed_told}
 use Rattle.vx_reading.specs.Stops.{bad_cause}
+use Rattle.vx_reading.specs.WhatWasRead.{EventsRead, WereRead}
 use Rattle.vx_reading.proofs.FaultLemmas.{cut_behind}
-use Rattle.vx_reading.proofs.FeedLemmas.{read_so_many}
+use Rattle.vx_reading.proofs.FeedLemmas.{events_read, read_so_many}
 use Rattle.vx_drivers.specs.declared.exit.Exit.{Exit}
 use Rattle.vx_drivers.specs.declared.exit.Exit.TheVariants.{Done, BadFeed, NoMemory, ReadFault, WriteFault}
 use Rattle.vx_drivers.specs.declared.tick_run.TickRun.{TickRun}
@@ -22,8 +24,8 @@ use Rattle.vx_drivers.specs.Along.{Along}
 use Rattle.vx_drivers.specs.Exits.{exit_of_stop, is_cut, is_write_fault}
 use Rattle.vx_drivers.specs.Sending.{CutsOff, Sent, Text}
 use Rattle.vx_drivers.specs.TickRun.{AreWhole, GivesTickAnswers, GivesTickParts, RunsTicksBy, RunsTicksIf, TickRules, TickStand, TakesEvent, certificates_text, counts_text, lines_text, no_events, one_more}
-use Rattle.vx_drivers.specs.TickSteps.{AnswersAllRead, CutsTick, HasAnswered, HasEndedTicks, IsAtEvent, IsNewTicks, IsThroughTicks, SendsNothing, SendsTick}
-use Rattle.vx_drivers.proofs.ExitLemmas.{bad_not_read, done_not_read, memory_not_read, write_cuts, write_is_fault, write_not_read}
+use Rattle.vx_drivers.specs.TickSteps.{AnswersEventsRead, CutsTick, HasAnswered, HasEndedTicks, IsAtEvent, IsNewTicks, IsThroughTicks, SendsNothing, SendsTick}
+use Rattle.vx_drivers.proofs.ExitLemmas.{bad_not_cut, done_not_cut, memory_not_read, write_cuts, write_is_fault, write_not_read}
 use Rattle.vx_drivers.proofs.SendingLemmas.{sent_more, sent_none, sent_still}
 use Rattle.vx_drivers.proofs.TickLemmas.{counted_same, steps_more, text_last, texts_more}
 
@@ -44,6 +46,23 @@ split_last (y ∷ xs) a (b ∷ before) x after is =
         → (b ∷ before ≡ y ∷ xs) ⊎ ((more : List _) × (y ∷ xs ≡ b ∷ before ++ x ∷ more))
     further y b first (inl same) = inl (ap (λ z. z ∷ before) (sym first) ∙ ap (λ l. y ∷ l) same)
     further y b first (inr (more, same)) = inr (more, ap (λ l. y ∷ l) same ∙ ap (λ z. z ∷ before ++ x ∷ more) first)
+
+-- no byte before those that are left
+untouched : (left : Option (List ℕ)) → left ≡ prepend_known [] left
+untouched None = refl
+untouched (Some bytes) = refl
+
+-- before anything is read, no line was
+no_line_read : (told : Told) → WereRead [] told.left told
+no_line_read told = record { more = []; held_is = untouched told.left }
+
+-- and no event
+nothing_read : (told : Told) → EventsRead [] told.left told
+nothing_read told = record {
+  lines = [];
+  were_read = no_line_read told;
+  say = record { events_are = refl; none_bad = refl };
+}
 
 -- events that were taken up are the first ones of the feed, or of some feed where none is told
 record Firsts (feed : Option Reading) (events : List Event) : Type 0 where
@@ -117,79 +136,93 @@ module _ {A : Type 0} (rules : TickRules A) where
   gives_alone over stand rest first steps =
       record { stand = stand; steps = steps; rest = rest; are_first = first; out_is = refl; certs_are = refl }
 
+  -- first parts of what the events of a stand give
+  record GivesPartsOf (over : Reading) (stand : TickStand A) (out certs : Text) : Type 0 where
+    parts : GivesTickParts rules over out certs
+    stand_is : parts.gives.stand ≡ stand
+
   -- a part of the certificate
   gives_certificate : (over : Reading) (old : TickStand A) (event : Event) (answer : A) (rest : List Event) (n : ℕ)
       → over.events ≡ (old.events ++ event ∷ []) ++ rest
       → Along (TakesEvent rules) no_events (old.events ++ event ∷ []) (one_more old event (Some answer))
-      → GivesTickParts rules over (lines_text rules old.answers)
+      → GivesPartsOf over (one_more old event (Some answer)) (lines_text rules old.answers)
       (certificates_text rules old.answers ++ take n (rules.certificate answer))
   gives_certificate over old event answer rest n first steps = record {
-    out_more = rules.line answer;
-    certs_more = drop n (rules.certificate answer);
-    gives = record {
-      stand = one_more old event (Some answer);
-      steps = steps;
-      rest = rest;
-      are_first = first;
-      last = [];
-      last_is = inl refl;
-      out_is = sym (append-nil (lines_text rules (old.answers ++ answer ∷ [])) ∙ text_last rules.line old.answers answer);
-      certs_are =
-          append_assoc (certificates_text rules old.answers) (take n (rules.certificate answer))
-          (drop n (rules.certificate answer))
-          ∙ ap (λ t. certificates_text rules old.answers ++ t) (take-append-drop n (rules.certificate answer))
-          ∙ sym (text_last rules.certificate old.answers answer);
+    stand_is = refl;
+    parts = record {
+      out_more = rules.line answer;
+      certs_more = drop n (rules.certificate answer);
+      gives = record {
+        stand = one_more old event (Some answer);
+        steps = steps;
+        rest = rest;
+        are_first = first;
+        last = [];
+        last_is = inl refl;
+        out_is = sym (append-nil (lines_text rules (old.answers ++ answer ∷ [])) ∙ text_last rules.line old.answers answer);
+        certs_are =
+            append_assoc (certificates_text rules old.answers) (take n (rules.certificate answer))
+            (drop n (rules.certificate answer))
+            ∙ ap (λ t. certificates_text rules old.answers ++ t) (take-append-drop n (rules.certificate answer))
+            ∙ sym (text_last rules.certificate old.answers answer);
+      };
+      whole = whole_but_last old.answers answer (take n (rules.certificate answer));
     };
-    whole = whole_but_last old.answers answer (take n (rules.certificate answer));
   }
 
   -- the certificate, and a part of the line
   gives_line : (over : Reading) (old : TickStand A) (event : Event) (answer : A) (rest : List Event) (n : ℕ)
       → over.events ≡ (old.events ++ event ∷ []) ++ rest
       → Along (TakesEvent rules) no_events (old.events ++ event ∷ []) (one_more old event (Some answer))
-      → GivesTickParts rules over (lines_text rules old.answers ++ take n (rules.line answer))
+      → GivesPartsOf over (one_more old event (Some answer)) (lines_text rules old.answers ++ take n (rules.line answer))
       (certificates_text rules (old.answers ++ answer ∷ []))
   gives_line over old event answer rest n first steps = record {
-    out_more = drop n (rules.line answer);
-    certs_more = [];
-    gives = record {
-      stand = one_more old event (Some answer);
-      steps = steps;
-      rest = rest;
-      are_first = first;
-      last = [];
-      last_is = inl refl;
-      out_is =
-          append_assoc (lines_text rules old.answers) (take n (rules.line answer)) (drop n (rules.line answer))
-          ∙ ap (λ t. lines_text rules old.answers ++ t) (take-append-drop n (rules.line answer))
-          ∙ sym (text_last rules.line old.answers answer)
-          ∙ sym (append-nil (lines_text rules (old.answers ++ answer ∷ [])));
-      certs_are = append-nil (certificates_text rules (old.answers ++ answer ∷ []));
+    stand_is = refl;
+    parts = record {
+      out_more = drop n (rules.line answer);
+      certs_more = [];
+      gives = record {
+        stand = one_more old event (Some answer);
+        steps = steps;
+        rest = rest;
+        are_first = first;
+        last = [];
+        last_is = inl refl;
+        out_is =
+            append_assoc (lines_text rules old.answers) (take n (rules.line answer)) (drop n (rules.line answer))
+            ∙ ap (λ t. lines_text rules old.answers ++ t) (take-append-drop n (rules.line answer))
+            ∙ sym (text_last rules.line old.answers answer)
+            ∙ sym (append-nil (lines_text rules (old.answers ++ answer ∷ [])));
+        certs_are = append-nil (certificates_text rules (old.answers ++ answer ∷ []));
+      };
+      whole = whole_all (old.answers ++ answer ∷ []) (lines_text rules old.answers ++ take n (rules.line answer));
     };
-    whole = whole_all (old.answers ++ answer ∷ []) (lines_text rules old.answers ++ take n (rules.line answer));
   }
 
   -- all answers, and a part of the last line
   gives_last : (stand : TickStand A) (n : ℕ) → Along (TakesEvent rules) no_events stand.events stand
-      → GivesTickParts rules (all_good stand.events)
+      → GivesPartsOf (all_good stand.events) stand
       (lines_text rules stand.answers ++ take n (counts_text rules stand.answers)) (certificates_text rules stand.answers)
   gives_last stand n steps = record {
-    out_more = drop n (counts_text rules stand.answers);
-    certs_more = [];
-    gives = record {
-      stand = stand;
-      steps = steps;
-      rest = [];
-      are_first = sym (append-nil stand.events);
-      last = counts_text rules stand.answers;
-      last_is = inr (refl, refl);
-      out_is =
-          append_assoc (lines_text rules stand.answers) (take n (counts_text rules stand.answers))
-          (drop n (counts_text rules stand.answers))
-          ∙ ap (λ t. lines_text rules stand.answers ++ t) (take-append-drop n (counts_text rules stand.answers));
-      certs_are = append-nil (certificates_text rules stand.answers);
+    stand_is = refl;
+    parts = record {
+      out_more = drop n (counts_text rules stand.answers);
+      certs_more = [];
+      gives = record {
+        stand = stand;
+        steps = steps;
+        rest = [];
+        are_first = sym (append-nil stand.events);
+        last = counts_text rules stand.answers;
+        last_is = inr (refl, refl);
+        out_is =
+            append_assoc (lines_text rules stand.answers) (take n (counts_text rules stand.answers))
+            (drop n (counts_text rules stand.answers))
+            ∙ ap (λ t. lines_text rules stand.answers ++ t) (take-append-drop n (counts_text rules stand.answers));
+        certs_are = append-nil (certificates_text rules stand.answers);
+      };
+      whole = whole_all stand.answers (lines_text rules stand.answers ++ take n (counts_text rules stand.answers));
     };
-    whole = whole_all stand.answers (lines_text rules stand.answers ++ take n (counts_text rules stand.answers));
   }
 
   cut_by : (over : Reading) (out certs : Text) (exit : Exit) → is_cut exit ≡ true → GivesTickParts rules over out certs
@@ -211,8 +244,54 @@ module _ {A : Type 0} (rules : TickRules A) where
   cut_inside over out certs slot exit is parts =
       cut_by over out certs exit (write_cuts slot exit is) parts (write_is_fault slot exit is)
 
+  -- ---- what a run that was cut off has sent of what was read
+
+  -- all answers to the events that were read were sent
+  all_read : (held : Option (List ℕ)) (feed : Option Reading) (now : Slot → Told) (exit : Exit) (stand : TickStand A)
+      → Along (TakesEvent rules) no_events stand.events stand → EventsRead stand.events held (now Feed)
+      → (exit ≡ ReadFault Feed → IsCutBehind feed stand.events now)
+      → AnswersEventsRead rules held feed now exit (lines_text rules stand.answers) (certificates_text rules stand.answers)
+  all_read held feed now exit stand steps read cut = record {
+    stand = stand;
+    steps = steps;
+    read = read;
+    last = [];
+    last_is = inl refl;
+    out_part = ([], refl);
+    certs_part = ([], sym (append-nil (certificates_text rules stand.answers)));
+    whole = λ not. (refl, refl);
+    cut = cut;
+  }
+
+  -- the last line comes only behind the told feed's end
+  told_last : (feed : Option Reading) (over : Reading) (stand : TickStand A) (last : Text) → Says feed over
+      → (last ≡ []) ⊎ ((over ≡ all_good stand.events) × (last ≡ counts_text rules stand.answers))
+      → (last ≡ []) ⊎ (Says feed (all_good stand.events) × (last ≡ counts_text rules stand.answers))
+  told_last feed over stand last says (inl none) = inl none
+  told_last feed over stand last says (inr (all, is)) = inr (subst (λ r. Says feed r) all says, is)
+
+  -- or a write failed, and first parts of them were sent
+  part_read : (held : Option (List ℕ)) (feed : Option Reading) (now : Slot → Told) (slot : Slot) (exit : Exit)
+      (over : Reading) (stand : TickStand A) (out certs : Text) → exit ≡ WriteFault slot → Says feed over
+      → GivesPartsOf over stand out certs → EventsRead stand.events held (now Feed)
+      → AnswersEventsRead rules held feed now exit out certs
+  part_read held feed now slot exit over stand out certs is says of read =
+      let gives = of.parts.gives in
+      record {
+        stand = gives.stand;
+        steps = gives.steps;
+        read = subst (λ (s : TickStand A). EventsRead s.events held (now Feed)) (sym of.stand_is) read;
+        last = gives.last;
+        last_is = told_last feed over gives.stand gives.last says gives.last_is;
+        out_part = (of.parts.out_more, sym gives.out_is);
+        certs_part = (of.parts.certs_more, sym gives.certs_are);
+        whole = write_is_fault slot exit is;
+        cut = write_not_read slot exit is;
+      }
+
   -- a run that has no memory to begin
-  pub never_started : (feed : Option Reading) (told : Slot → Told) → HasEndedTicks rules feed told told NoMemory
+  pub never_started : (feed : Option Reading) (told : Slot → Told)
+      → HasEndedTicks rules (told Feed).left feed told told NoMemory
   never_started feed told =
       let first = no_firsts feed in
       record {
@@ -223,13 +302,14 @@ module _ {A : Type 0} (rules : TickRules A) where
         runs = cut_between first.over no_events first.rest NoMemory refl first.are_first refl;
         out_sent = sent_none (told Out) (told Out) refl;
         certs_sent = sent_none (told Certs) (told Certs) refl;
-        read_fault = memory_not_read;
+        cut = λ is.
+            all_read (told Feed).left feed told NoMemory no_events refl (nothing_read (told Feed)) memory_not_read;
       }
 
   module _ {T : Type 0} (StandsFor : T → List Event → Type 0) where
     -- nothing was read
     pub starts : (run : TickRun T) (told : Slot → Told) → IsNewTicks StandsFor run
-        → HasAnswered rules StandsFor (feed_told told) told run told
+        → HasAnswered rules StandsFor (told Feed).left (feed_told told) told run told
     starts run told new =
         let p : run.published ≡ 0 = new.published in
         let u : run.undecided ≡ 0 = new.undecided in
@@ -245,7 +325,7 @@ module _ {A : Type 0} (rules : TickRules A) where
           out = sent_none (told Out) (told Out) refl;
         }
 
-    module _ (feed : Option Reading) (before : Slot → Told) where
+    module _ (held : Option (List ℕ)) (feed : Option Reading) (before : Slot → Told) where
       -- other slots of the desk changed
       still : (f : A → Text) (answers : List A) (slot : Slot) (between now : Slot → Told)
           → Sent (concat (map f answers)) (before slot) (between slot) → now slot ≡ between slot
@@ -261,13 +341,18 @@ module _ {A : Type 0} (rules : TickRules A) where
           sent_more (concat (map f answers)) text (before slot) (read slot) (now slot)
           (still f answers slot between read sent same) further
 
+      -- what was read stays read where the feed was left alone
+      still_read : (events : List Event) (between now : Slot → Told) → now Feed ≡ between Feed
+          → EventsRead events held (between Feed) → EventsRead events held (now Feed)
+      still_read events between now same = subst (λ (t : Told). EventsRead events held t) (sym same)
+
       -- ---- one event more
 
       pub is_at_event : (old run : TickRun T) (between now : Slot → Told) (event : Event)
-          (way : HasAnswered rules StandsFor feed before old between)
-          → IsAt StandsFor feed (way.stand.events ++ event ∷ []) run.feed now → run.published ≡ old.published
+          (way : HasAnswered rules StandsFor held feed before old between)
+          → IsAt StandsFor held feed (way.stand.events ++ event ∷ []) run.feed now → run.published ≡ old.published
           → run.undecided ≡ old.undecided → run.refused ≡ old.refused
-          → IsAtEvent rules StandsFor feed way.stand event run now
+          → IsAtEvent rules StandsFor held feed way.stand event run now
       is_at_event old run between now event way at p u r = record {
         at = at;
         steps = way.between.steps;
@@ -275,10 +360,10 @@ module _ {A : Type 0} (rules : TickRules A) where
       }
 
       pub answered_on : (old run : TickRun T) (between read now : Slot → Told) (event : Event)
-          (way : HasAnswered rules StandsFor feed before old between)
+          (way : HasAnswered rules StandsFor held feed before old between)
           → read Out ≡ between Out → read Certs ≡ between Certs
-          → SendsTick rules StandsFor feed way.stand event run read now
-          → HasAnswered rules StandsFor feed before run now
+          → SendsTick rules StandsFor held feed way.stand event run read now
+          → HasAnswered rules StandsFor held feed before run now
       answered_on old run between read now event way out_same certs_same sends = record {
         stand = one_more way.stand event sends.said;
         between = sends.between;
@@ -296,32 +381,33 @@ module _ {A : Type 0} (rules : TickRules A) where
 
       -- nothing more was sent, and the run is cut off
       pub cut_short : (run : TickRun T) (between now : Slot → Told) (exit : Exit)
-          → HasAnswered rules StandsFor feed before run between
+          (way : HasAnswered rules StandsFor held feed before run between)
           → now Out ≡ between Out → now Certs ≡ between Certs → is_cut exit ≡ true
-          → (exit ≡ ReadFault Feed → AnswersAllRead rules feed before now)
-          → HasEndedTicks rules feed before now exit
-      cut_short run between now exit way out_same certs_same cut read =
+          → EventsRead way.stand.events held (now Feed)
+          → (exit ≡ ReadFault Feed → IsCutBehind feed way.stand.events now)
+          → HasEndedTicks rules held feed before now exit
+      cut_short run between now exit way out_same certs_same cuts read behind =
           let first = firsts feed way.stand.events
-          (read_so_many StandsFor feed (length way.stand.events) way.stand.events run.feed between way.between.at refl)
+          (read_so_many StandsFor held feed (length way.stand.events) way.stand.events run.feed between way.between.at refl)
           in
           record {
             over = first.over;
             feed_is = first.feed_is;
             out = lines_text rules way.stand.answers;
             certs = certificates_text rules way.stand.answers;
-            runs = cut_between first.over way.stand first.rest exit cut first.are_first way.between.steps;
+            runs = cut_between first.over way.stand first.rest exit cuts first.are_first way.between.steps;
             out_sent = still rules.line way.stand.answers Out between now way.out out_same;
             certs_sent = still rules.certificate way.stand.answers Certs between now way.certs certs_same;
-            read_fault = read;
+            cut = λ is. all_read held feed now exit way.stand way.between.steps read behind;
           }
 
       -- the feed is not read on
       pub stop_ends : (run : TickRun T) (reader : FeedReader T) (between now : Slot → Told) (why : FeedStop)
-          (way : HasAnswered rules StandsFor feed before run between)
-          → now Out ≡ between Out → now Certs ≡ between Certs
-          → ReadsNext StandsFor feed way.stand.events reader now (Err why)
-          → HasEndedTicks rules feed before now (exit_of_stop why)
-      stop_ends run reader between now (stop.BadLine number why) way out_same certs_same (numbered, is_cause, says)
+          (way : HasAnswered rules StandsFor held feed before run between)
+          → now Out ≡ between Out → now Certs ≡ between Certs → EventsRead way.stand.events held (now Feed)
+          → ReadsNext StandsFor held feed way.stand.events reader now (Err why)
+          → HasEndedTicks rules held feed before now (exit_of_stop why)
+      stop_ends run reader between now (stop.BadLine number why) way out_same certs_same read (numbered, is_cause, says)
           = record {
             over = stopped_at way.stand.events (bad_cause why);
             feed_is = says;
@@ -336,83 +422,88 @@ module _ {A : Type 0} (rules : TickRules A) where
             };
             out_sent = still rules.line way.stand.answers Out between now way.out out_same;
             certs_sent = still rules.certificate way.stand.answers Certs between now way.certs certs_same;
-            read_fault = bad_not_read number why;
+            cut = bad_not_cut number why;
           }
-      stop_ends run reader between now stop.Device way out_same certs_same reads =
-          cut_short run between now (exit_of_stop stop.Device) way out_same certs_same refl (λ is. record {
-            stand = way.stand;
-            steps = way.between.steps;
-            cut = cut_behind StandsFor feed way.stand.events reader now reads.0 reads.1;
-            out = still rules.line way.stand.answers Out between now way.out out_same;
-            certs = still rules.certificate way.stand.answers Certs between now way.certs certs_same;
-          })
-      stop_ends run reader between now stop.NoMemory way out_same certs_same reads =
-          cut_short run between now (exit_of_stop stop.NoMemory) way out_same certs_same refl memory_not_read
+      stop_ends run reader between now stop.Device way out_same certs_same read reads =
+          cut_short run between now (exit_of_stop stop.Device) way out_same certs_same refl read
+          (λ is. cut_behind StandsFor held feed way.stand.events reader now reads.0 reads.1)
+      stop_ends run reader between now stop.NoMemory way out_same certs_same read reads =
+          cut_short run between now (exit_of_stop stop.NoMemory) way out_same certs_same refl read memory_not_read
 
       -- the run ended at an event
       pub event_ends : (run : TickRun T) (reader : FeedReader T) (between read now : Slot → Told) (event : Event)
-          (exit : Exit) (way : HasAnswered rules StandsFor feed before run between)
-          → read Out ≡ between Out → read Certs ≡ between Certs
-          → IsAt StandsFor feed (way.stand.events ++ event ∷ []) reader read
+          (exit : Exit) (way : HasAnswered rules StandsFor held feed before run between)
+          → read Out ≡ between Out → read Certs ≡ between Certs → EventsRead way.stand.events held (read Feed)
+          → IsAt StandsFor held feed (way.stand.events ++ event ∷ []) reader read → now Feed ≡ read Feed
           → SendsNothing read now exit ⊎ CutsTick rules way.stand event read now exit
-          → HasEndedTicks rules feed before now exit
-      event_ends run reader between read now event exit way out_same certs_same at (inl nothing) =
-          subst (λ e. HasEndedTicks rules feed before now e) (sym nothing.exit_is)
-          (cut_short run between now NoMemory way (nothing.out ∙ out_same) (nothing.certs ∙ certs_same) refl memory_not_read)
-      event_ends run reader between read now event exit way out_same certs_same at (inr cuts) =
+          → HasEndedTicks rules held feed before now exit
+      event_ends run reader between read now event exit way out_same certs_same stays at feed_same (inl nothing) =
+          subst (λ e. HasEndedTicks rules held feed before now e) (sym nothing.exit_is)
+          (cut_short run between now NoMemory way (nothing.out ∙ out_same) (nothing.certs ∙ certs_same) refl
+          (still_read way.stand.events read now feed_same stays) memory_not_read)
+      event_ends run reader between read now event exit way out_same certs_same stays at feed_same (inr cuts) =
           let events = way.stand.events ++ event ∷ [] in
-          let first = firsts feed events (read_so_many StandsFor feed (length events) events reader read at refl) in
+          let first = firsts feed events (read_so_many StandsFor held feed (length events) events reader read at refl) in
           let steps = steps_more rules way.stand event (Some cuts.answer) way.between.steps cuts.gives in
           cut_at first steps cuts.cut
         where
           events : List Event
           events = way.stand.events ++ event ∷ []
 
+          were_read : EventsRead events held (now Feed)
+          were_read = still_read events read now feed_same (events_read held events reader read at.read)
+
           cut_at : Firsts feed events
               → Along (TakesEvent rules) no_events events (one_more way.stand event (Some cuts.answer))
               → (CutsOff Certs (rules.certificate cuts.answer) (read Certs) (now Certs) exit × (now Out ≡ read Out))
               ⊎ (Sent (rules.certificate cuts.answer) (read Certs) (now Certs) × CutsOff Out (rules.line cuts.answer)
               (read Out) (now Out) exit)
-              → HasEndedTicks rules feed before now exit
-          cut_at first steps (inl (cut, same)) = record {
-            over = first.over;
-            feed_is = first.feed_is;
-            out = lines_text rules way.stand.answers;
-            certs = certificates_text rules way.stand.answers ++ take cut.part.count (rules.certificate cuts.answer);
-            runs = cut_inside first.over (lines_text rules way.stand.answers)
-                (certificates_text rules way.stand.answers ++ take cut.part.count (rules.certificate cuts.answer)) Certs exit
-                cut.exit_is
-                (gives_certificate first.over way.stand event cuts.answer first.rest cut.part.count first.are_first steps);
-            out_sent = still rules.line way.stand.answers Out between now way.out (same ∙ out_same);
-            certs_sent = more rules.certificate way.stand.answers (take cut.part.count (rules.certificate cuts.answer))
-                Certs between read now way.certs certs_same cut.part.sent;
-            read_fault = write_not_read Certs exit cut.exit_is;
-          }
-          cut_at first steps (inr (sent, cut)) = record {
-            over = first.over;
-            feed_is = first.feed_is;
-            out = lines_text rules way.stand.answers ++ take cut.part.count (rules.line cuts.answer);
-            certs = certificates_text rules (way.stand.answers ++ cuts.answer ∷ []);
-            runs = cut_inside first.over (lines_text rules way.stand.answers ++ take cut.part.count (rules.line cuts.answer))
-                (certificates_text rules (way.stand.answers ++ cuts.answer ∷ [])) Out exit cut.exit_is
-                (gives_line first.over way.stand event cuts.answer first.rest cut.part.count first.are_first steps);
-            out_sent = more rules.line way.stand.answers (take cut.part.count (rules.line cuts.answer))
-                Out between read now way.out out_same cut.part.sent;
-            certs_sent = subst (λ t. Sent t (before Certs) (now Certs))
-                (sym (text_last rules.certificate way.stand.answers cuts.answer))
-                (more rules.certificate way.stand.answers (rules.certificate cuts.answer)
-                Certs between read now way.certs certs_same sent);
-            read_fault = write_not_read Out exit cut.exit_is;
-          }
+              → HasEndedTicks rules held feed before now exit
+          cut_at first steps (inl (cut, same)) =
+              let out = lines_text rules way.stand.answers in
+              let certs = certificates_text rules way.stand.answers ++ take cut.part.count (rules.certificate cuts.answer) in
+              let gives = gives_certificate first.over way.stand event cuts.answer first.rest cut.part.count
+              first.are_first steps in
+              record {
+                over = first.over;
+                feed_is = first.feed_is;
+                out = out;
+                certs = certs;
+                runs = cut_inside first.over out certs Certs exit cut.exit_is gives.parts;
+                out_sent = still rules.line way.stand.answers Out between now way.out (same ∙ out_same);
+                certs_sent = more rules.certificate way.stand.answers (take cut.part.count (rules.certificate cuts.answer))
+                    Certs between read now way.certs certs_same cut.part.sent;
+                cut = λ is. part_read held feed now Certs exit first.over (one_more way.stand event (Some cuts.answer)) out certs
+                    cut.exit_is first.feed_is gives were_read;
+              }
+          cut_at first steps (inr (sent, cut)) =
+              let out = lines_text rules way.stand.answers ++ take cut.part.count (rules.line cuts.answer) in
+              let certs = certificates_text rules (way.stand.answers ++ cuts.answer ∷ []) in
+              let gives = gives_line first.over way.stand event cuts.answer first.rest cut.part.count first.are_first steps in
+              record {
+                over = first.over;
+                feed_is = first.feed_is;
+                out = out;
+                certs = certs;
+                runs = cut_inside first.over out certs Out exit cut.exit_is gives.parts;
+                out_sent = more rules.line way.stand.answers (take cut.part.count (rules.line cuts.answer))
+                    Out between read now way.out out_same cut.part.sent;
+                certs_sent = subst (λ t. Sent t (before Certs) (now Certs))
+                    (sym (text_last rules.certificate way.stand.answers cuts.answer))
+                    (more rules.certificate way.stand.answers (rules.certificate cuts.answer)
+                    Certs between read now way.certs certs_same sent);
+                cut = λ is. part_read held feed now Out exit first.over (one_more way.stand event (Some cuts.answer)) out certs
+                    cut.exit_is first.feed_is gives were_read;
+              }
 
       -- ---- behind the last event
 
       pub feed_ended : (old run : TickRun T) (between now : Slot → Told)
-          (way : HasAnswered rules StandsFor feed before old between)
-          → IsAt StandsFor feed way.stand.events run.feed now → Says feed (all_good way.stand.events)
+          (way : HasAnswered rules StandsFor held feed before old between)
+          → IsAt StandsFor held feed way.stand.events run.feed now → Says feed (all_good way.stand.events)
           → run.published ≡ old.published → run.undecided ≡ old.undecided → run.refused ≡ old.refused
           → now Out ≡ between Out → now Certs ≡ between Certs
-          → IsThroughTicks rules StandsFor feed before run now
+          → IsThroughTicks rules StandsFor held feed before run now
       feed_ended old run between now way at says p u r out_same certs_same = record {
         way = record {
           stand = way.stand;
@@ -429,10 +520,10 @@ module _ {A : Type 0} (rules : TickRules A) where
 
       -- the last line is sent
       pub last_sent : (run : TickRun T) (between now : Slot → Told) (text : Text)
-          (through : IsThroughTicks rules StandsFor feed before run between)
+          (through : IsThroughTicks rules StandsFor held feed before run between)
           → now Certs ≡ between Certs → text ≡ counts_text rules through.way.stand.answers
           → Sent text (between Out) (now Out)
-          → HasEndedTicks rules feed before now Done
+          → HasEndedTicks rules held feed before now Done
       last_sent run between now text through certs_same is sent =
           let way = through.way in
           record {
@@ -444,28 +535,32 @@ module _ {A : Type 0} (rules : TickRules A) where
             out_sent = more rules.line way.stand.answers (counts_text rules way.stand.answers)
                 Out between between now way.out refl (subst (λ t. Sent t (between Out) (now Out)) is sent);
             certs_sent = still rules.certificate way.stand.answers Certs between now way.certs certs_same;
-            read_fault = done_not_read;
+            cut = done_not_cut;
           }
 
       -- or a write of it fails
       pub last_cut : (run : TickRun T) (between now : Slot → Told) (text : Text) (exit : Exit)
-          (through : IsThroughTicks rules StandsFor feed before run between)
-          → now Certs ≡ between Certs → text ≡ counts_text rules through.way.stand.answers
+          (through : IsThroughTicks rules StandsFor held feed before run between)
+          → now Certs ≡ between Certs → now Feed ≡ between Feed → text ≡ counts_text rules through.way.stand.answers
           → CutsOff Out text (between Out) (now Out) exit
-          → HasEndedTicks rules feed before now exit
-      last_cut run between now text exit through certs_same is cut =
+          → HasEndedTicks rules held feed before now exit
+      last_cut run between now text exit through certs_same feed_same is cut =
           let way = through.way in
           let part = take cut.part.count (counts_text rules way.stand.answers) in
+          let gives = gives_last way.stand cut.part.count way.between.steps in
           record {
             over = all_good way.stand.events;
             feed_is = through.says;
             out = lines_text rules way.stand.answers ++ part;
             certs = certificates_text rules way.stand.answers;
             runs = cut_inside (all_good way.stand.events) (lines_text rules way.stand.answers ++ part)
-                (certificates_text rules way.stand.answers) Out exit cut.exit_is
-                (gives_last way.stand cut.part.count way.between.steps);
+                (certificates_text rules way.stand.answers) Out exit cut.exit_is gives.parts;
             out_sent = more rules.line way.stand.answers part Out between between now way.out refl
                 (subst (λ t. Sent (take cut.part.count t) (between Out) (now Out)) is cut.part.sent);
             certs_sent = still rules.certificate way.stand.answers Certs between now way.certs certs_same;
-            read_fault = write_not_read Out exit cut.exit_is;
+            cut = λ is. part_read held feed now Out exit (all_good way.stand.events) way.stand
+                (lines_text rules way.stand.answers ++ part) (certificates_text rules way.stand.answers) cut.exit_is
+                through.says gives
+                (still_read way.stand.events between now feed_same
+                (events_read held way.stand.events run.feed between way.between.at.read));
           }

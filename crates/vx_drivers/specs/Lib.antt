@@ -6,6 +6,7 @@ pub mod CertificateLaws
 pub mod CertificateRun
 pub mod CertificateSteps
 pub mod Exits
+pub mod Held
 pub mod PositionExits
 pub mod PositionLaws
 pub mod PositionLines

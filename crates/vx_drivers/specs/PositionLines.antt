@@ -1,14 +1,19 @@
 -- Lines of positions, some of them read ahead and split into fields, to be taken one after another.
-use Rattle.std.specs.Prelude.{◌≡◌, ℕ, ◌<◌, Bool, true, false, List, [], ◌∷◌, ◌++◌, length, map, drop, Option, Some, None}
+use Rattle.std.specs.Prelude.{◌≡◌, ℕ, ◌<◌, Bool, true, false, List, [], ◌∷◌, ◌++◌, length, map, drop, Option, Some, None, Result, Ok, Err}
 use Rattle.std.specs.Option.{option_map}
-use Rattle.vx_lines.specs.TextLines.{TextLines, at_end, ended, line_then, lines_then, no_eol, too_long}
+use Rattle.std.specs.Io.KnownBytes.{prepend_known}
+use Rattle.vx_lines.specs.TextLines.{TextLines, at_end, ended, line_then, lines_then, no_eol, text_of, too_long}
 use Rattle.vx_desk.specs.declared.device.Slot.{Slot}
 use Rattle.vx_desk.specs.declared.device.Slot.TheVariants.{Side}
 use Rattle.vx_desk.specs.Told.{Told}
+use Rattle.vx_desk.specs.Lines.{to_come}
 use Rattle.vx_desk.specs.Coming.{coming}
 use Rattle.vx_fields.specs.Lines.{fields_of_line}
 use Rattle.vx_settle.specs.declared.fault.PositionFault.{PositionFault}
 use Rattle.vx_settle.specs.Form.{unsplit_fault}
+use Rattle.vx_reading.specs.WhatWasRead.{IsCutAfter, WereRead}
+use Rattle.vx_drivers.specs.declared.exit.Exit.{Exit}
+use Rattle.vx_drivers.specs.declared.exit.Exit.TheVariants.{ReadFault}
 use Rattle.vx_drivers.specs.declared.exit.PositionCause.{PositionCause}
 use Rattle.vx_drivers.specs.declared.exit.PositionCause.TheVariants as cause
 use Rattle.vx_drivers.specs.declared.limits.TheConstants.{POSITION_LINE_LEN_MAX}
@@ -77,6 +82,55 @@ block_coming p told = then_behind p.block p told
 -- the lines that were not yet taken, and what comes behind them
 abbrev pub lines_coming : PositionLines → (Slot → Told) → Option TextLines
 lines_coming p told = then_behind (drop p.taken p.block) p told
+
+-- a file held these lines, then those of the block that were not yet taken, and then what is to come to its reader, with
+-- nothing between them where more is read
+pub record HasGivenLines (lines : List (List ℕ)) (held : Option (List ℕ)) (p : PositionLines) (told : Slot → Told) : Type 0 where
+  pub between : List ℕ
+  pub held_is : held ≡ prepend_known (text_of (lines ++ drop p.taken p.block) ++ between) (to_come p.lines (told Side))
+  pub more : p.rest ≡ More → between ≡ []
+
+-- the same of a block that is being read, of which no line was taken
+abbrev pub HasReadLines : List (List ℕ) → Option (List ℕ) → PositionLines → (Slot → Told) → Type 0
+HasReadLines lines held p told = HasGivenLines lines held (record p { taken = 0 }) told
+
+-- reading stops where these lines were read; at a failed read no more was read behind them than a part of a line
+pub record StopsReading (lines : List (List ℕ)) (held : Option (List ℕ)) (now : Told) (exit : Exit) : Type 0 where
+  pub were_read : WereRead lines held now
+  pub cut : exit ≡ ReadFault Side → IsCutAfter lines POSITION_LINE_LEN_MAX held now
+
+-- a block has what was read behind the lines before it, or reading stops behind those that are known
+abbrev pub ReadsBlock : List (List ℕ) → Option (List ℕ) → PositionLines → (Slot → Told) → List (List ℕ) → Result Unit Exit → Type 0
+ReadsBlock lines held p now known (Ok _) = HasReadLines lines held p now
+ReadsBlock lines held p now known (Err exit) = StopsReading known held (now Side) exit
+
+-- one line more of a file is read to a block, and where reading stops those of the block were read
+abbrev pub ReadsOneLine : PositionLines → (Slot → Told) → PositionLines → (Slot → Told) → Result Unit Exit → Type 0
+ReadsOneLine old before new after result =
+    (lines : List (List ℕ)) (held : Option (List ℕ)) → HasReadLines lines held old before
+    → ReadsBlock lines held new after (lines ++ old.block) result
+
+-- more lines are read to a block
+abbrev pub ReadsMoreLines : PositionLines → (Slot → Told) → PositionLines → (Slot → Told) → Result Unit Exit → Type 0
+ReadsMoreLines old before new after result =
+    (lines : List (List ℕ)) (held : Option (List ℕ)) → HasReadLines lines held old before
+    → ReadsBlock lines held new after lines result
+
+-- a new block is read, where the lines of the one before it were taken
+abbrev pub ReadsNewBlock : PositionLines → (Slot → Told) → PositionLines → (Slot → Told) → Result Unit Exit → Type 0
+ReadsNewBlock old before new after result =
+    (lines : List (List ℕ)) (held : Option (List ℕ)) → HasGivenLines lines held old before
+    → ReadsBlock lines held new after lines result
+
+-- what was given of a file stays given, or reading stops behind it
+abbrev pub GivesOn : List (List ℕ) → Option (List ℕ) → PositionLines → (Slot → Told) → Result Unit Exit → Type 0
+GivesOn lines held p now (Ok _) = HasGivenLines lines held p now
+GivesOn lines held p now (Err exit) = StopsReading lines held (now Side) exit
+
+-- the positions are read on
+abbrev pub ReadsOn : PositionLines → (Slot → Told) → PositionLines → (Slot → Told) → Result Unit Exit → Type 0
+ReadsOn old before new after result =
+    (lines : List (List ℕ)) (held : Option (List ℕ)) → HasGivenLines lines held old before → GivesOn lines held new after result
 
 -- a line is added to a block, or it cannot be split and the block stops before it
 abbrev pub AddsPosition : List ℕ → Option PositionFault → PositionLines → PositionLines → Type 0

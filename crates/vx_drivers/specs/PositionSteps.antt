@@ -1,10 +1,10 @@
 -- The steps of a run that settles positions.
-use Rattle.std.specs.Prelude.{◌≡◌, ◌⊎◌, ℕ, ◌+◌, ◌-◌, Bool, true, false, List, [], ◌∷◌, ◌++◌, length}
+use Rattle.std.specs.Prelude.{◌≡◌, ◌≢◌, ◌⊎◌, ℕ, ◌+◌, ◌-◌, Bool, true, false, List, [], ◌∷◌, ◌++◌, length}
 use Rattle.std.specs.Prelude.{IfOk, IfSome, OnOk, Option, Some, None, Result, Ok, Err}
 use Rattle.std.specs.Option.{option_map}
 use Rattle.vx_lines.specs.TextLines.{TextLines, at_end, at_most, ended, lines_then}
 use Rattle.vx_desk.specs.declared.device.Slot.{Slot}
-use Rattle.vx_desk.specs.declared.device.Slot.TheVariants.{Side, Out, Certs}
+use Rattle.vx_desk.specs.declared.device.Slot.TheVariants.{Feed, Side, Out, Certs}
 use Rattle.vx_desk.specs.Told.{Told}
 use Rattle.vx_num.specs.declared.fault.NoMemory.{NoMemory}
 use Rattle.vx_feed.specs.declared.events.Event.{Event}
@@ -12,18 +12,20 @@ use Rattle.vx_feed.specs.Feed.{Reading}
 use Rattle.vx_feed.specs.Order.{AreLawful}
 use Rattle.vx_settle.specs.declared.fault.PositionFault.{PositionFault}
 use Rattle.vx_reading.specs.FeedReading.{Says, all_good}
+use Rattle.vx_reading.specs.WhatWasRead.{EventsRead, IsCutAfter, WereRead}
 use Rattle.vx_drivers.specs.declared.exit.Exit.{Exit}
-use Rattle.vx_drivers.specs.declared.exit.Exit.TheVariants.{BadPositions}
+use Rattle.vx_drivers.specs.declared.exit.Exit.TheVariants.{BadPositions, ReadFault, NoMemory as WantsMemory}
 use Rattle.vx_drivers.specs.declared.exit.PositionCause.TheVariants.{Fault}
-use Rattle.vx_drivers.specs.declared.limits.TheConstants.{POSITION_LINES_MAX}
+use Rattle.vx_drivers.specs.declared.limits.TheConstants.{POSITION_LINES_MAX, POSITION_LINE_LEN_MAX}
 use Rattle.vx_drivers.specs.declared.position_lines.PositionLines.{PositionLines}
 use Rattle.vx_drivers.specs.declared.position_run.PositionRun.{PositionRun}
 use Rattle.vx_drivers.specs.Along.{Along}
-use Rattle.vx_drivers.specs.Exits.{is_cut}
+use Rattle.vx_drivers.specs.Exits.{is_cut, is_write_fault}
+use Rattle.vx_drivers.specs.Held.{Held}
 use Rattle.vx_drivers.specs.PositionExits.{IsLineFault}
-use Rattle.vx_drivers.specs.PositionLines.{lines_coming}
+use Rattle.vx_drivers.specs.PositionLines.{HasGivenLines, lines_coming}
 use Rattle.vx_drivers.specs.PositionRun.{PositionRules, RunsPositionsBy, Settles, positions_of, settled_text}
-use Rattle.vx_drivers.specs.Sending.{CutsOff, Sent, Text}
+use Rattle.vx_drivers.specs.Sending.{Begins, CutsOff, Sent, Text}
 
 -- what the positions are, where their desk tells them
 abbrev pub positions_told : (Slot → Told) → Option TextLines
@@ -91,9 +93,43 @@ WritesLast {A} {I} rules StandsAt sheet count line result =
 
 -- ---- how a run ends
 
+-- a run was cut off behind the feed's end: it sent what the opening and first lines give, which were read by then, or where
+-- a write failed a first part of it; and where a read of the lines failed, no more was read behind them than a part of a line
+pub record SettlesLinesRead {A I : Type 0} (rules : PositionRules A I) (held : Held) (feed : Option Reading)
+    (positions : Option TextLines) (after : Slot → Told) (exit : Exit) (out certs : Text) : Type 0 where
+  pub events : List Event
+  pub feed_is : Says feed (all_good events)
+  pub events_read : EventsRead events held.feed (after Feed)
+  pub answer : A
+  pub is_opening : rules.IsOpening events answer
+  pub items : List I
+  pub lines : List (List ℕ)
+  pub steps : Along (Settles rules answer) [] lines items
+  pub lines_read : WereRead lines held.side (after Side)
+  pub last : Text
+  pub last_is : (last ≡ []) ⊎ (IfSome positions (λ told. told ≡ lines_then lines (ended at_end))
+      × (last ≡ rules.last_lines answer items))
+  pub out_part : Begins out (settled_text rules answer items ++ last)
+  pub certs_part : Begins certs (rules.certificate answer)
+  pub whole : is_write_fault exit ≡ false
+      → (out ≡ settled_text rules answer items) × (certs ≡ rules.certificate answer)
+  pub cut : exit ≡ ReadFault Side → IsCutAfter lines POSITION_LINE_LEN_MAX held.side (after Side)
+
+-- nothing was sent, and no line of positions was asked for
+pub record SendsNeither (exit : Exit) (out certs : Text) : Type 0 where
+  pub out_is : out ≡ []
+  pub certs_are : certs ≡ []
+  pub not_side : exit ≢ ReadFault Side
+
+-- the opening counts as read once the feed was read to its end: before that nothing is sent
+abbrev pub SettlesNothingOrRead : {A I : Type 0} → PositionRules A I → Held → Option Reading → Option TextLines → (Slot → Told)
+    → Exit → Text → Text → Type 0
+SettlesNothingOrRead rules held feed positions after exit out certs =
+    SendsNeither exit out certs ⊎ SettlesLinesRead rules held feed positions after exit out certs
+
 -- the run ended with this exit, and sent what it gives over the feed and the positions: those that are told, or some
--- where none are
-pub record HasEndedPositions {A I : Type 0} (rules : PositionRules A I) (feed : Option Reading)
+-- where none are; and where it was cut off, what the lines give that were read
+pub record HasEndedPositions {A I : Type 0} (rules : PositionRules A I) (held : Held) (feed : Option Reading)
     (positions : Option TextLines) (before after : Slot → Told) (exit : Exit) : Type 0 where
   pub over : Reading
   pub feed_is : Says feed over
@@ -104,6 +140,7 @@ pub record HasEndedPositions {A I : Type 0} (rules : PositionRules A I) (feed : 
   pub runs : RunsPositionsBy rules over lines exit out certs
   pub out_sent : Sent out (before Out) (after Out)
   pub certs_sent : Sent certs (before Certs) (after Certs)
+  pub cut : is_cut exit ≡ true → SettlesNothingOrRead rules held feed positions after exit out certs
 
 module _ {A I S : Type 0} (rules : PositionRules A I) (StandsAt : S → A → List I → Type 0) where
   -- ---- one line
@@ -128,11 +165,11 @@ module _ {A I S : Type 0} (rules : PositionRules A I) (StandsAt : S → A → Li
     pub exit_is : exit ≡ BadPositions (length items + 1) (Fault fault)
     pub comes : rules.ComesTo answer text (Err fault)
 
-  -- a line is settled, or the run ends at it
+  -- a line is settled, or the run ends at it: for want of memory, or as it is no position, or where a write failed
   abbrev pub SettlesLine : A → List I → List ℕ → PositionRun S → Told → Told → Result Unit Exit → Type 0
   SettlesLine answer items text run before after (Ok _) = SendsItem answer items text run before after
   SettlesLine answer items text run before after (Err exit) =
-      (((is_cut exit ≡ true) ⊎ EndsAtFault answer items text exit) × (after ≡ before))
+      (((exit ≡ WantsMemory) ⊎ EndsAtFault answer items text exit) × (after ≡ before))
       ⊎ CutsItem answer items text before after exit
 
   -- the line after so many is settled
@@ -144,10 +181,11 @@ module _ {A I S : Type 0} (rules : PositionRules A I) (StandsAt : S → A → Li
   -- ---- the opening
 
   -- the opening of a feed that is read to its end was answered, and its two texts were sent
-  pub record HasOpened (feed : Option Reading) (before : Slot → Told) (run : PositionRun S)
+  pub record HasOpened (held : Option (List ℕ)) (feed : Option Reading) (before : Slot → Told) (run : PositionRun S)
       (now : Slot → Told) : Type 0 where
     pub events : List Event
     pub feed_is : Says feed (all_good events)
+    pub events_read : EventsRead events held (now Feed)
     pub answer : A
     pub is_opening : rules.IsOpening events answer
     pub sheet : StandsAt run.sheet answer []
@@ -156,23 +194,25 @@ module _ {A I S : Type 0} (rules : PositionRules A I) (StandsAt : S → A → Li
     pub out : Sent (rules.line answer) (before Out) (now Out)
 
   -- the same, or the run ended
-  abbrev pub OpensRun : Option Reading → (Slot → Told) → (Slot → Told) → Result (PositionRun S) Exit → Type 0
-  OpensRun feed before now (Ok run) = HasOpened feed before run now
-  OpensRun feed before now (Err exit) =
-      (positions : Option TextLines) → HasEndedPositions rules feed positions before now exit
+  abbrev pub OpensRun : Held → Option Reading → (Slot → Told) → (Slot → Told) → Result (PositionRun S) Exit → Type 0
+  OpensRun held feed before now (Ok run) = HasOpened held.feed feed before run now
+  OpensRun held feed before now (Err exit) =
+      (positions : Option TextLines) → held.side ≡ (now Side).left → HasEndedPositions rules held feed positions before now exit
 
   -- ---- from the start of the run
 
-  module _ (feed : Option Reading) (positions : Option TextLines) (before : Slot → Told) where
+  module _ (held : Held) (feed : Option Reading) (positions : Option TextLines) (before : Slot → Told) where
     -- the opening and the first lines are answered and sent, and these lines are to come
-    pub record IsSettling (run : PositionRun S) (now : Slot → Told) (rest : Option TextLines) : Type 0 where
+    pub record IsSettling (run : PositionRun S) (ahead : PositionLines) (now : Slot → Told) (rest : Option TextLines) : Type 0 where
       pub events : List Event
       pub feed_is : Says feed (all_good events)
+      pub events_read : EventsRead events held.feed (now Feed)
       pub answer : A
       pub is_opening : rules.IsOpening events answer
       pub items : List I
       pub lines : List (List ℕ)
       pub are_first : positions ≡ option_map (lines_then lines) rest
+      pub lines_read : HasGivenLines lines held.side ahead now
       pub steps : Along (Settles rules answer) [] lines items
       pub sheet : StandsAt run.sheet answer items
       pub count : run.count ≡ length items
@@ -182,50 +222,57 @@ module _ {A I S : Type 0} (rules : PositionRules A I) (StandsAt : S → A → Li
     -- and no line is left
     abbrev pub IsThroughPositions : PositionRun S → (Slot → Told) → Type 0
     IsThroughPositions run now =
-        (rest : Option TextLines) × IsSettling run now rest × IfSome rest (λ lines. lines ≡ ended at_end)
+        (ahead : PositionLines) × (rest : Option TextLines) × IsSettling run ahead now rest
+        × IfSome rest (λ lines. lines ≡ ended at_end)
 
     -- one line more is settled, or none is left, or the run ended
-    abbrev pub GoesOnPositions : PositionRun S → (Slot → Told) → Option TextLines → Result Bool Exit → Type 0
-    GoesOnPositions run now rest (Ok true) = IsSettling run now rest
-    GoesOnPositions run now rest (Ok false) = IsThroughPositions run now
-    GoesOnPositions run now rest (Err exit) = HasEndedPositions rules feed positions before now exit
+    abbrev pub GoesOnPositions : PositionRun S → PositionLines → (Slot → Told) → Option TextLines → Result Bool Exit → Type 0
+    GoesOnPositions run ahead now rest (Ok true) = IsSettling run ahead now rest
+    GoesOnPositions run ahead now rest (Ok false) = IsThroughPositions run now
+    GoesOnPositions run ahead now rest (Err exit) = HasEndedPositions rules held feed positions before now exit
 
     -- all lines are settled, or the run ended
     abbrev pub SettlesEach : PositionRun S → (Slot → Told) → Result Unit Exit → Type 0
     SettlesEach run now (Ok _) = IsThroughPositions run now
-    SettlesEach run now (Err exit) = HasEndedPositions rules feed positions before now exit
+    SettlesEach run now (Err exit) = HasEndedPositions rules held feed positions before now exit
 
   -- ---- the clauses of a run
 
+  -- the lines that are to come to a run, as many as there may be
+  abbrev pub rest_of : PositionRun S → PositionLines → (Slot → Told) → Option TextLines
+  rest_of run ahead told = allowed_positions run.count ahead told
+
   -- a run that may go on
-  abbrev pub MaySettle : PositionRun S → (Slot → Told) → Option TextLines → Type 0
-  MaySettle run told rest =
-      (feed : Option Reading) × (positions : Option TextLines) × (before : Slot → Told)
-      × IsSettling feed positions before run told rest
+  abbrev pub MaySettle : PositionRun S → PositionLines → (Slot → Told) → Type 0
+  MaySettle run ahead told =
+      (held : Held) × (feed : Option Reading) × (positions : Option TextLines) × (before : Slot → Told)
+      × IsSettling held feed positions before run ahead told (rest_of run ahead told)
 
   -- the next line is settled
-  abbrev pub GoesOnePosition : PositionRun S → (Slot → Told) → Option TextLines → PositionRun S → (Slot → Told)
-      → Option TextLines → Result Bool Exit → Type 0
-  GoesOnePosition old told rest new now more result =
-      (feed : Option Reading) (positions : Option TextLines) (before : Slot → Told)
-      → IsSettling feed positions before old told rest → GoesOnPositions feed positions before new now more result
+  abbrev pub GoesOnePosition : PositionRun S → PositionLines → (Slot → Told) → PositionRun S → PositionLines
+      → (Slot → Told) → Result Bool Exit → Type 0
+  GoesOnePosition old lines told new more now result =
+      (held : Held) (feed : Option Reading) (positions : Option TextLines) (before : Slot → Told)
+      → IsSettling held feed positions before old lines told (rest_of old lines told)
+      → GoesOnPositions held feed positions before new more now (rest_of new more now) result
 
   -- all lines are settled
-  abbrev pub GoesToLastPosition : PositionRun S → (Slot → Told) → Option TextLines → PositionRun S → (Slot → Told)
+  abbrev pub GoesToLastPosition : PositionRun S → PositionLines → (Slot → Told) → PositionRun S → (Slot → Told)
       → Result Unit Exit → Type 0
-  GoesToLastPosition old told rest new now result =
-      (feed : Option Reading) (positions : Option TextLines) (before : Slot → Told)
-      → IsSettling feed positions before old told rest → SettlesEach feed positions before new now result
+  GoesToLastPosition old lines told new now result =
+      (held : Held) (feed : Option Reading) (positions : Option TextLines) (before : Slot → Told)
+      → IsSettling held feed positions before old lines told (rest_of old lines told)
+      → SettlesEach held feed positions before new now result
 
   -- a run whose lines are all settled
   abbrev pub MayEndPositions : PositionRun S → (Slot → Told) → Type 0
   MayEndPositions run told =
-      (feed : Option Reading) × (positions : Option TextLines) × (before : Slot → Told)
-      × IsThroughPositions feed positions before run told
+      (held : Held) × (feed : Option Reading) × (positions : Option TextLines) × (before : Slot → Told)
+      × IsThroughPositions held feed positions before run told
 
   -- the run ends behind the last line
   abbrev pub EndsPositionRun : PositionRun S → (Slot → Told) → (Slot → Told) → Exit → Type 0
   EndsPositionRun run told now exit =
-      (feed : Option Reading) (positions : Option TextLines) (before : Slot → Told)
-      → IsThroughPositions feed positions before run told
-      → HasEndedPositions rules feed positions before now exit
+      (held : Held) (feed : Option Reading) (positions : Option TextLines) (before : Slot → Told)
+      → IsThroughPositions held feed positions before run told
+      → HasEndedPositions rules held feed positions before now exit

@@ -1,5 +1,5 @@
 -- What a run sends, and what is left of it where a call fails.
-use Rattle.std.specs.Prelude.{◌≡◌, ℕ, ◌<◌, List, length, take, Option, Result, Ok, Err}
+use Rattle.std.specs.Prelude.{◌≡◌, ℕ, ◌<◌, List, ◌++◌, length, take, Option, Result, Ok, Err}
 use Rattle.std.specs.Io.KnownBytes.{append_known}
 use Rattle.vx_desk.specs.Told.{IsOpened, SameContent, Told}
 use Rattle.vx_desk.specs.declared.device.Slot.{Slot}
@@ -8,6 +8,10 @@ use Rattle.vx_drivers.specs.declared.exit.Exit.TheVariants.{OpenFault, WriteFaul
 
 abbrev pub Text : Type 0
 Text = List ℕ
+
+-- a text begins with this part
+abbrev pub Begins : Text → Text → Type 0
+Begins part text = (rest : Text) × (text ≡ part ++ rest)
 
 -- this text was sent to a slot
 abbrev pub Sent : Text → Told → Told → Type 0

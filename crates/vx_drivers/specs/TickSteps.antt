@@ -10,15 +10,17 @@ use Rattle.vx_feed.specs.declared.events.Event.{Event}
 use Rattle.vx_feed.specs.Feed.{Reading}
 use Rattle.vx_feed.specs.Order.{AreLawful}
 use Rattle.vx_reading.specs.FeedReading.{IsAt, IsCutBehind, Says, all_good, feed_told}
+use Rattle.vx_reading.specs.WhatWasRead.{EventsRead}
 use Rattle.vx_drivers.specs.declared.exit.Exit.{Exit}
 use Rattle.vx_drivers.specs.declared.exit.Exit.TheVariants.{ReadFault}
 use Rattle.vx_drivers.specs.declared.exit.Exit.TheVariants as exits
 use Rattle.vx_drivers.specs.declared.tick_run.TickRun.{TickRun}
 use Rattle.vx_drivers.specs.declared.ticks.Tally.{Tally}
 use Rattle.vx_drivers.specs.Along.{Along}
-use Rattle.vx_drivers.specs.Sending.{CutsOff, Sent, Text}
+use Rattle.vx_drivers.specs.Exits.{is_cut, is_write_fault}
+use Rattle.vx_drivers.specs.Sending.{Begins, CutsOff, Sent, Text}
 use Rattle.vx_drivers.specs.TickRun.{TickRules, TickStand, TakesEvent, RunsTicksBy, no_events, one_more}
-use Rattle.vx_drivers.specs.TickRun.{certificates_text, lines_text, published_count, refused_count, undecided_count}
+use Rattle.vx_drivers.specs.TickRun.{certificates_text, counts_text, lines_text, published_count, refused_count, undecided_count}
 
 -- ---- an answer
 
@@ -88,18 +90,25 @@ pub record SendsNothing (before after : Slot → Told) (exit : Exit) : Type 0 wh
   pub certs : after Certs ≡ before Certs
   pub out : after Out ≡ before Out
 
--- a read of the feed failed: just the answers to its first events were sent, each with its certificate, and behind these
--- events no more was read of the feed than a part of a line
-pub record AnswersAllRead {A : Type 0} (rules : TickRules A) (feed : Option Reading) (before after : Slot → Told) : Type 0 where
+-- a run was cut off: it sent the answers to first events, which were read by then, or where a write failed a first part of
+-- them; and where a read of the feed failed, no more was read behind these events than a part of a line
+pub record AnswersEventsRead {A : Type 0} (rules : TickRules A) (held : Option (List ℕ)) (feed : Option Reading)
+    (after : Slot → Told) (exit : Exit) (out certs : Text) : Type 0 where
   pub stand : TickStand A
   pub steps : Along (TakesEvent rules) no_events stand.events stand
-  pub cut : IsCutBehind feed stand.events after
-  pub out : Sent (lines_text rules stand.answers) (before Out) (after Out)
-  pub certs : Sent (certificates_text rules stand.answers) (before Certs) (after Certs)
+  pub read : EventsRead stand.events held (after Feed)
+  pub last : Text
+  pub last_is : (last ≡ []) ⊎ (Says feed (all_good stand.events) × (last ≡ counts_text rules stand.answers))
+  pub out_part : Begins out (lines_text rules stand.answers ++ last)
+  pub certs_part : Begins certs (certificates_text rules stand.answers)
+  pub whole : is_write_fault exit ≡ false
+      → (out ≡ lines_text rules stand.answers) × (certs ≡ certificates_text rules stand.answers)
+  pub cut : exit ≡ ReadFault Feed → IsCutBehind feed stand.events after
 
--- the run ended with this exit, and sent what it gives over the feed: the one that is told, or some feed where none is
-pub record HasEndedTicks {A : Type 0} (rules : TickRules A) (feed : Option Reading) (before after : Slot → Told)
-    (exit : Exit) : Type 0 where
+-- the run ended with this exit, and sent what it gives over the feed: the one that is told, or some feed where none is; and
+-- where it was cut off, what the lines give that were read
+pub record HasEndedTicks {A : Type 0} (rules : TickRules A) (held : Option (List ℕ)) (feed : Option Reading)
+    (before after : Slot → Told) (exit : Exit) : Type 0 where
   pub over : Reading
   pub feed_is : Says feed over
   pub out : Text
@@ -107,20 +116,20 @@ pub record HasEndedTicks {A : Type 0} (rules : TickRules A) (feed : Option Readi
   pub runs : RunsTicksBy rules over exit out certs
   pub out_sent : Sent out (before Out) (after Out)
   pub certs_sent : Sent certs (before Certs) (after Certs)
-  pub read_fault : exit ≡ ReadFault Feed → AnswersAllRead rules feed before after
+  pub cut : is_cut exit ≡ true → AnswersEventsRead rules held feed after exit out certs
 
 -- nothing was read
 pub record IsNewTicks {T : Type 0} (StandsFor : T → List Event → Type 0) (run : TickRun T) : Type 0 where
-  pub feed : (told : Slot → Told) → IsAt StandsFor (feed_told told) [] run.feed told
+  pub feed : (told : Slot → Told) → IsAt StandsFor (told Feed).left (feed_told told) [] run.feed told
   pub published : run.published ≡ 0
   pub undecided : run.undecided ≡ 0
   pub refused : run.refused ≡ 0
 
 module _ {A T : Type 0} (rules : TickRules A) (StandsFor : T → List Event → Type 0) where
-  module _ (feed : Option Reading) where
+  module _ (held : Option (List ℕ)) (feed : Option Reading) where
     -- these events are read, and those of the stand are answered and counted
     pub record HasRead (stand : TickStand A) (events : List Event) (run : TickRun T) (told : Slot → Told) : Type 0 where
-      pub at : IsAt StandsFor feed events run.feed told
+      pub at : IsAt StandsFor held feed events run.feed told
       pub steps : Along (TakesEvent rules) no_events stand.events stand
       pub counted : HasCounted rules stand run
 
@@ -163,48 +172,50 @@ module _ {A T : Type 0} (rules : TickRules A) (StandsFor : T → List Event → 
     abbrev pub GoesOnTicks : (Slot → Told) → TickRun T → (Slot → Told) → Result Bool Exit → Type 0
     GoesOnTicks before run now (Ok true) = HasAnswered before run now
     GoesOnTicks before run now (Ok false) = IsThroughTicks before run now
-    GoesOnTicks before run now (Err exit) = HasEndedTicks rules feed before now exit
+    GoesOnTicks before run now (Err exit) = HasEndedTicks rules held feed before now exit
 
     -- all events are answered, or the run ended
     abbrev pub AnswersAllTicks : (Slot → Told) → TickRun T → (Slot → Told) → Result Unit Exit → Type 0
     AnswersAllTicks before run now (Ok _) = IsThroughTicks before run now
-    AnswersAllTicks before run now (Err exit) = HasEndedTicks rules feed before now exit
+    AnswersAllTicks before run now (Err exit) = HasEndedTicks rules held feed before now exit
 
   -- ---- the clauses of a run
 
   -- a run that has read an event to be answered
   abbrev pub MayAnswer : TickRun T → (Slot → Told) → Type 0
   MayAnswer run told =
-      (feed : Option Reading) × (stand : TickStand A) × (event : Event) × IsAtEvent feed stand event run told
+      (held : Option (List ℕ)) × (feed : Option Reading) × (stand : TickStand A) × (event : Event) × IsAtEvent held feed stand event run told
 
   -- and its event is answered
   abbrev pub AnswersLast : TickRun T → (Slot → Told) → TickRun T → (Slot → Told) → Result Unit Exit → Type 0
   AnswersLast old before new after result =
-      (feed : Option Reading) (stand : TickStand A) (event : Event) → IsAtEvent feed stand event old before
-      → AnswersEvent feed stand event new before after result
+      (held : Option (List ℕ)) (feed : Option Reading) (stand : TickStand A) (event : Event) → IsAtEvent held feed stand event old before
+      → AnswersEvent held feed stand event new before after result
 
   -- a run that may go on
   abbrev pub MayGoOnTicks : TickRun T → (Slot → Told) → Type 0
-  MayGoOnTicks run told = (feed : Option Reading) × (before : Slot → Told) × HasAnswered feed before run told
+  MayGoOnTicks run told =
+      (held : Option (List ℕ)) × (feed : Option Reading) × (before : Slot → Told) × HasAnswered held feed before run told
 
   -- the next event is answered
   abbrev pub GoesOneEvent : TickRun T → (Slot → Told) → TickRun T → (Slot → Told) → Result Bool Exit → Type 0
   GoesOneEvent old told new now result =
-      (feed : Option Reading) (before : Slot → Told) → HasAnswered feed before old told
-      → GoesOnTicks feed before new now result
+      (held : Option (List ℕ)) (feed : Option Reading) (before : Slot → Told) → HasAnswered held feed before old told
+      → GoesOnTicks held feed before new now result
 
   -- all events are answered
   abbrev pub GoesToFeedEnd : TickRun T → (Slot → Told) → TickRun T → (Slot → Told) → Result Unit Exit → Type 0
   GoesToFeedEnd old told new now result =
-      (feed : Option Reading) (before : Slot → Told) → HasAnswered feed before old told
-      → AnswersAllTicks feed before new now result
+      (held : Option (List ℕ)) (feed : Option Reading) (before : Slot → Told) → HasAnswered held feed before old told
+      → AnswersAllTicks held feed before new now result
 
   -- a run whose events are all answered
   abbrev pub MayEndTicks : TickRun T → (Slot → Told) → Type 0
-  MayEndTicks run told = (feed : Option Reading) × (before : Slot → Told) × IsThroughTicks feed before run told
+  MayEndTicks run told =
+      (held : Option (List ℕ)) × (feed : Option Reading) × (before : Slot → Told) × IsThroughTicks held feed before run told
 
   -- the run ends behind the last event
   abbrev pub EndsTickRun : TickRun T → (Slot → Told) → (Slot → Told) → Exit → Type 0
   EndsTickRun run told now exit =
-      (feed : Option Reading) (before : Slot → Told) → IsThroughTicks feed before run told
-      → HasEndedTicks rules feed before now exit
+      (held : Option (List ℕ)) (feed : Option Reading) (before : Slot → Told) → IsThroughTicks held feed before run told
+      → HasEndedTicks rules held feed before now exit

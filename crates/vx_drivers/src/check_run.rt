@@ -61,6 +61,7 @@ impl<B: TakesEvents> CheckRun<B> {
     ghost use Rattle.vx_desk.specs.Told.{ChangesOnly};
     ghost use Rattle.vx_desk.specs.Coming.{IsReader};
     ghost use Rattle.vx_reading.specs.Failures.{IsStep};
+    ghost use Rattle.vx_reading.specs.FeedReading.{StaysRead};
     ghost use Rattle.vx_drivers.specs.Answers.{answer_of, one_no, one_yes};
     ghost use Rattle.vx_drivers.specs.CertificateExits.{IsCertificateExit};
     ghost use Rattle.vx_drivers.specs.CertificateSteps.{AnswersNext, ComesOfLine, EndsRun, GoesOneOn, GoesToEnd};
@@ -96,6 +97,7 @@ impl<B: TakesEvents> CheckRun<B> {
             self.old (D.told desk.old) self.new (D.told desk.new) result }
         ensures kept { (self.new.yes ≡ self.old.yes) × (self.new.no ≡ self.old.no) }
         ensures exits { IfErr result IsCertificateExit }
+        ensures stays_read { StaysRead self.old.feed (D.told desk.old) (D.told desk.new) }
         ensures step { IsStep (calls_in result) (D.told desk.old) (D.told desk.new) }
         ensures others { ChangesOnly Slot.Feed (D.told desk.old) (D.told desk.new) }
     {
@@ -156,6 +158,7 @@ impl<B: TakesEvents> CheckRun<B> {
         ensures answers { AnswersNext C.rules B.StandsFor line.now
             self.old (D.told desk.old) self.new (D.told desk.new) result }
         ensures lines { OnOk result (answered_lines self.new ≡ answered_lines self.old + 1) }
+        ensures stays_read { StaysRead self.old.feed (D.told desk.old) (D.told desk.new) }
         ensures side { D.told desk.new Slot.Side ≡ D.told desk.old Slot.Side }
         ensures exits { IfErr result IsCertificateExit }
         ensures step { IsStep (calls_in result) (D.told desk.old) (D.told desk.new) }

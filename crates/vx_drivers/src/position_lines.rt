@@ -55,7 +55,8 @@ impl PositionLines {
     ghost use Rattle.vx_drivers.specs.Exits.{calls_in, is_cut};
     ghost use Rattle.vx_drivers.specs.PositionExits.{IsPositionExit};
     ghost use Rattle.vx_drivers.specs.PositionLines.{AddsLastPosition, HasNextPosition, IsFreshLines, IsPositionLines, IsReadingPositions};
-    ghost use Rattle.vx_drivers.specs.PositionLines.{block_coming, lines_coming};
+    ghost use Rattle.vx_drivers.specs.PositionLines.{ReadsMoreLines, ReadsNewBlock, ReadsOn, ReadsOneLine, block_coming, lines_coming};
+    ghost use Rattle.vx_desk.specs.Lines.{holds_line};
 
     /// The lines of positions of which nothing was read.
     pub(crate) fn new(alloc: Global) -> Result<PositionLines, NoMemory>
@@ -98,6 +99,8 @@ impl PositionLines {
         ensures reading { OnOk result (IsReadingPositions self.new) }
         ensures coming { OnOk result (block_coming self.new (D.told desk.new)
             ≡ block_coming self.old (D.told desk.old)) }
+        ensures read { ReadsOneLine self.old (D.told desk.old) self.new (D.told desk.new) result }
+        ensures in_hand { holds_line self.old.lines ≡ true → IfErr result (λ exit. exit ≡ Exit.NoMemory) }
         ensures one { OnOk result (self.new.rest ≡ Rest.More → length self.new.block ≡ length self.old.block + 1) }
         ensures cut { IfErr result (λ exit. is_cut exit ≡ true) }
         ensures exits { IfErr result IsPositionExit }
@@ -114,6 +117,13 @@ impl PositionLines {
         Ok(())
     }
 
+    /// Whether one more line can be read for which the device is not asked.
+    fn can_add(&self) -> bool
+        ensures { IsTrue result → (self.now.rest ≡ Rest.More) × (holds_line self.now.lines ≡ true) }
+    {
+        self.rest.is_more() && self.lines.holds_line()
+    }
+
     /// Adds the lines that the reader holds, up to what is no line that can be split.
     fn add_held<D: Desk>(&mut self, desk: &mut D) -> Result<(), Exit>
         requires reading { IsReadingPositions self.old }
@@ -122,6 +132,7 @@ impl PositionLines {
         ensures reading { OnOk result (IsReadingPositions self.new) }
         ensures coming { OnOk result (block_coming self.new (D.told desk.new)
             ≡ block_coming self.old (D.told desk.old)) }
+        ensures read { ReadsMoreLines self.old (D.told desk.old) self.new (D.told desk.new) result }
         ensures some { OnOk result (self.new.rest ≡ Rest.More → 0 < length self.new.block) }
         ensures cut { IfErr result (λ exit. is_cut exit ≡ true) }
         ensures exits { IfErr result IsPositionExit }
@@ -129,7 +140,7 @@ impl PositionLines {
         ensures others { ChangesOnly Slot.Side (D.told desk.old) (D.told desk.new) }
     {
         'held: for _ in 1..BLOCK_LINES {
-            if !self.rest.is_more() || !self.lines.holds_line() {
+            if !self.can_add() {
                 return Ok(());
             }
             match self.read_line(desk) {
@@ -149,6 +160,7 @@ impl PositionLines {
         ensures reading { OnOk result (IsReadingPositions self.new) }
         ensures coming { OnOk result (block_coming self.new (D.told desk.new)
             ≡ lines_coming self.old (D.told desk.old)) }
+        ensures read { ReadsNewBlock self.old (D.told desk.old) self.new (D.told desk.new) result }
         ensures some { OnOk result (self.new.rest ≡ Rest.More → 0 < length self.new.block) }
         ensures cut { IfErr result (λ exit. is_cut exit ≡ true) }
         ensures exits { IfErr result IsPositionExit }
@@ -181,6 +193,7 @@ impl PositionLines {
         ensures lines { OnOk result (IsPositionLines self.new) }
         ensures coming { OnOk result (lines_coming self.new (D.told desk.new)
             ≡ lines_coming self.old (D.told desk.old)) }
+        ensures read { ReadsOn self.old (D.told desk.old) self.new (D.told desk.new) result }
         ensures next { OnOk result (HasNextPosition self.new) }
         ensures cut { IfErr result (λ exit. is_cut exit ≡ true) }
         ensures exits { IfErr result IsPositionExit }

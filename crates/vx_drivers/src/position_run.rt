@@ -5,6 +5,7 @@ ghost use Rattle.std.specs.Prelude.{◌≡◌, ◌==◌, ◌+◌, ◌≤◌, [],
 ghost use Rattle.vx_reading.specs.Failures.{IsStep};
 ghost use Rattle.vx_reading.specs.FeedReading.{feed_told};
 ghost use Rattle.vx_drivers.specs.Exits.{calls_in, exit_calls};
+ghost use Rattle.vx_drivers.specs.Held.{held_by};
 ghost use Rattle.vx_drivers.specs.PositionExits.{IsPositionExit};
 ghost use Rattle.vx_drivers.specs.PositionLines.{bad_behind as cause_behind};
 ghost use Rattle.vx_drivers.specs.PositionSteps.{HasEndedPositions, OpensRun, positions_told};
@@ -69,7 +70,7 @@ impl<S: SettlesPositions> PositionRun<S> {
     ghost use Rattle.vx_drivers.specs.Exits.{calls_in, exit_calls};
     ghost use Rattle.vx_drivers.specs.PositionExits.{IsPositionExit};
     ghost use Rattle.vx_drivers.specs.PositionSteps.{EndsPositionRun, GoesOnePosition, GoesToLastPosition, HasItems};
-    ghost use Rattle.vx_drivers.specs.PositionSteps.{MayEndPositions, MaySettle, SettlesOne, allowed_positions};
+    ghost use Rattle.vx_drivers.specs.PositionSteps.{MayEndPositions, MaySettle, SettlesOne};
 
     /// Settles one more line, which was split into its fields.
     fn settle_line<D: Desk>(&mut self, desk: &mut D, fields: &Fields<'_>) -> Result<(), Exit>
@@ -101,15 +102,13 @@ impl<S: SettlesPositions> PositionRun<S> {
         desk: &mut D,
         positions: &mut PositionLines,
     ) -> Result<bool, Exit>
-        requires may { MaySettle S.rules S.StandsAt self.old (D.told desk.old)
-            (allowed_positions self.old.count positions.old (D.told desk.old)) }
+        requires may { MaySettle S.rules S.StandsAt self.old positions.old (D.told desk.old) }
         requires lines { IsPositionLines positions.old }
         requires few { self.old.count ≤ POSITION_LINES_MAX }
         requires side { IsTrue (D.told desk.old Slot.Side).is_open }
         requires out { IsTrue (D.told desk.old Slot.Out).is_open }
-        ensures goes { GoesOnePosition S.rules S.StandsAt self.old (D.told desk.old)
-            (allowed_positions self.old.count positions.old (D.told desk.old)) self.new (D.told desk.new)
-            (allowed_positions self.new.count positions.new (D.told desk.new)) result }
+        ensures goes { GoesOnePosition S.rules S.StandsAt self.old positions.old (D.told desk.old)
+            self.new positions.new (D.told desk.new) result }
         ensures reads { OnOk result (IsPositionLines positions.new) }
         ensures lines { IfOk result (λ more. IsTrue more → self.new.count ≡ self.old.count + 1) }
         ensures few { OnOk result (self.new.count ≤ POSITION_LINES_MAX) }
@@ -144,14 +143,13 @@ impl<S: SettlesPositions> PositionRun<S> {
         desk: &mut D,
         positions: &mut PositionLines,
     ) -> Result<(), Exit>
-        requires may { MaySettle S.rules S.StandsAt self.old (D.told desk.old)
-            (allowed_positions self.old.count positions.old (D.told desk.old)) }
+        requires may { MaySettle S.rules S.StandsAt self.old positions.old (D.told desk.old) }
         requires lines { IsPositionLines positions.old }
         requires few { self.old.count ≤ POSITION_LINES_MAX }
         requires side { IsTrue (D.told desk.old Slot.Side).is_open }
         requires out { IsTrue (D.told desk.old Slot.Out).is_open }
-        ensures all { GoesToLastPosition S.rules S.StandsAt self.old (D.told desk.old)
-            (allowed_positions self.old.count positions.old (D.told desk.old)) self.new (D.told desk.new) result }
+        ensures all { GoesToLastPosition S.rules S.StandsAt self.old positions.old (D.told desk.old)
+            self.new (D.told desk.new) result }
         ensures exits { IfErr result IsPositionExit }
         ensures step { IsStep (calls_in result) (D.told desk.old) (D.told desk.new) }
     {
@@ -194,7 +192,7 @@ fn open_run<B: AnswersOpening, D: Desk>(
     requires feed { IsTrue (D.told desk.old Slot.Feed).is_open }
     requires certs { IsTrue (D.told desk.old Slot.Certs).is_open }
     requires out { IsTrue (D.told desk.old Slot.Out).is_open }
-    ensures opens { OpensRun B.Sheet.rules B.Sheet.StandsAt (feed_told (D.told desk.old))
+    ensures opens { OpensRun B.Sheet.rules B.Sheet.StandsAt (held_by (D.told desk.old)) (feed_told (D.told desk.old))
         (D.told desk.old) (D.told desk.new) result }
     ensures side { D.told desk.new Slot.Side ≡ D.told desk.old Slot.Side }
     ensures exits { IfErr result IsPositionExit }
@@ -235,8 +233,8 @@ pub fn settle_positions<B: AnswersOpening, D: Desk>(alloc: Global, book: B, desk
     requires side { IsTrue (D.told desk.old Slot.Side).is_open }
     requires certs { IsTrue (D.told desk.old Slot.Certs).is_open }
     requires out { IsTrue (D.told desk.old Slot.Out).is_open }
-    ensures ends { HasEndedPositions B.Sheet.rules (feed_told (D.told desk.old)) (positions_told (D.told desk.old))
-        (D.told desk.old) (D.told desk.new) result }
+    ensures ends { HasEndedPositions B.Sheet.rules (held_by (D.told desk.old)) (feed_told (D.told desk.old))
+        (positions_told (D.told desk.old)) (D.told desk.old) (D.told desk.new) result }
     ensures exits { IsPositionExit result }
     ensures step { IsStep (exit_calls result) (D.told desk.old) (D.told desk.new) }
 {

@@ -80,6 +80,7 @@ impl<T: AnswersTicks> TickRun<T> {
         ensures exits { IfErr result IsTickExit }
         ensures step { IsStep (calls_in result) (D.told desk.old) (D.told desk.new) }
         ensures feed { self.new.feed ≡ self.old.feed }
+        ensures unread { D.told desk.new Slot.Feed ≡ D.told desk.old Slot.Feed }
         ensures side { D.told desk.new Slot.Side ≡ D.told desk.old Slot.Side }
     {
         self.certificate.clear();
@@ -177,7 +178,8 @@ pub fn answer_ticks<T: AnswersTicks, D: Desk>(alloc: Global, taker: T, desk: &mu
     requires feed { IsTrue (D.told desk.old Slot.Feed).is_open }
     requires certs { IsTrue (D.told desk.old Slot.Certs).is_open }
     requires out { IsTrue (D.told desk.old Slot.Out).is_open }
-    ensures ends { HasEndedTicks T.rules (feed_told (D.told desk.old)) (D.told desk.old) (D.told desk.new) result }
+    ensures ends { HasEndedTicks T.rules (D.told desk.old Slot.Feed).left (feed_told (D.told desk.old))
+        (D.told desk.old) (D.told desk.new) result }
     ensures exits { IsTickExit result }
     ensures step { IsStep (exit_calls result) (D.told desk.old) (D.told desk.new) }
     ensures side { D.told desk.new Slot.Side ≡ D.told desk.old Slot.Side }

@@ -65,6 +65,10 @@ split_said false false said = refl
 line_said : (events : List Event) (line : List ℕ) → event_of_line events line ≡ said_by (unsplit_fault line) (next_event events (fields_of_line line))
 line_said events line = split_said (length line == 0) (list_all is_plain line) (next_event events (fields_of_line line))
 
+-- a line without a fault says what its fields say
+pub plain_said : (events : List Event) (line : List ℕ) → unsplit_fault line ≡ None → event_of_line events line ≡ next_event events (fields_of_line line)
+plain_said events line none = line_said events line ∙ ap (λ o. said_by o (next_event events (fields_of_line line))) none
+
 -- ---- lines that were split
 
 after_same : (f g : List Event → Reading) (before : List Event) (said : Result Event BadCause) → ((events : List Event) → f events ≡ g events)

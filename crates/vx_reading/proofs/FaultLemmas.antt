@@ -1,5 +1,5 @@
 -- Where a reader of a feed stands that holds no line.
-use Rattle.std.proofs.Common.{◌≡◌, ◌≢◌, ◌∙◌, sym, ap, subst, refl, ℕ, ◌≤◌, Bool, true, false, not, ◌&&◌, ◌||◌, ◌==◌, List, [], ◌∷◌, ◌++◌, length, drop, All, Option, Some, None, arith}
+use Rattle.std.proofs.Common.{◌≡◌, ◌≢◌, ◌∙◌, sym, ap, subst, refl, ℕ, ◌≤◌, Bool, false, not, ◌&&◌, ◌||◌, ◌==◌, List, [], ◌∷◌, ◌++◌, length, Option, Some, None, arith}
 use Rattle.std.specs.Prelude.{nat_lt}
 use Rattle.std.specs.List.{list_any}
 use Rattle.std.specs.Option.{option_map}
@@ -8,7 +8,7 @@ use Rattle.std.proofs.lemmas.Bool.{or_parts}
 use Rattle.std.proofs.lemmas.Bool.Decides.{nat_tests}
 use Rattle.std.proofs.lemmas.List.Elements.{All-cons, All-nil}
 use Rattle.vx_lines.specs.Cut.{HasNoLf}
-use Rattle.vx_lines.specs.TextLines.{TextLines, line_feed, lines_of}
+use Rattle.vx_lines.specs.TextLines.{line_feed, lines_of}
 use Rattle.vx_desk.specs.declared.device.Slot.{Slot}
 use Rattle.vx_desk.specs.declared.device.Slot.TheVariants.{Feed}
 use Rattle.vx_desk.specs.declared.lines.TheConstants.{LF}
@@ -18,11 +18,10 @@ use Rattle.vx_desk.specs.Coming.{coming}
 use Rattle.vx_feed.specs.declared.events.Event.{Event}
 use Rattle.vx_feed.specs.declared.limits.TheConstants.{LINE_LEN_MAX}
 use Rattle.vx_feed.specs.Feed.{Reading, reading_on}
-use Rattle.vx_reading.specs.declared.ahead.LinesAhead.{LinesAhead}
 use Rattle.vx_reading.specs.declared.ahead.Rest.{Rest}
 use Rattle.vx_reading.specs.declared.ahead.Rest.TheVariants.{More, End, Bad}
 use Rattle.vx_reading.specs.declared.feed.FeedReader.{FeedReader}
-use Rattle.vx_reading.specs.LinesAhead.{IsAhead, ahead_says, is_in_hand, is_more, rest_says}
+use Rattle.vx_reading.specs.LinesAhead.{is_more, rest_says}
 use Rattle.vx_reading.specs.FeedReading.{IsAt, IsCutBehind, is_waiting}
 use Rattle.vx_reading.proofs.TakeLemmas.{rest_alone}
 
@@ -42,11 +41,11 @@ more_by End is = absurd (let no : ⊥ = cc in no)
 more_by (Bad cause) is = absurd (let no : ⊥ = cc in no)
 
 -- a reader that holds no line and may read on has few bytes that wait, and no LF among them
-record IsPart (limit : ℕ) (bytes : List ℕ) : Type 0 where
-  fits : length bytes ≤ limit
-  no_lf : HasNoLf bytes
+pub record IsPart (limit : ℕ) (bytes : List ℕ) : Type 0 where
+  pub fits : length bytes ≤ limit
+  pub no_lf : HasNoLf bytes
 
-part_waits : (reader : ReaderState) → reader.is_ended ≡ false → holds_line reader ≡ false → IsPart reader.limit reader.waiting
+pub part_waits : (reader : ReaderState) → reader.is_ended ≡ false → holds_line reader ≡ false → IsPart reader.limit reader.waiting
 part_waits reader ready none =
     let either : (nat_lt reader.limit (length reader.waiting) || list_any (λ byte. byte == LF) reader.waiting) ≡ false =
     subst (λ (b : Bool). (not b && (nat_lt reader.limit (length reader.waiting) || list_any (λ byte. byte == LF) reader.waiting)) ≡ false) ready none in
@@ -67,9 +66,9 @@ told_says events limit waiting None = refl
 told_says events limit waiting (Some bytes) = refl
 
 -- a reader with no line in hand is cut off behind the events that were taken up
-pub cut_behind : {T : Type 0} (StandsFor : T → List Event → Type 0) (whole : Option Reading) (events : List Event) (feed : FeedReader T)
-    (told : Slot → Told) → IsAt StandsFor whole events feed told → is_waiting feed ≡ false → IsCutBehind whole events told
-cut_behind StandsFor whole events feed told at none =
+pub cut_behind : {T : Type 0} (StandsFor : T → List Event → Type 0) (held : Option (List ℕ)) (whole : Option Reading) (events : List Event) (feed : FeedReader T)
+    (told : Slot → Told) → IsAt StandsFor held whole events feed told → is_waiting feed ≡ false → IsCutBehind whole events told
+cut_behind StandsFor held whole events feed told at none =
     let ahead = feed.ahead in
     let held = or_parts (nat_lt ahead.taken (length ahead.table) || not (is_more ahead.rest)) (holds_line ahead.lines) none in
     let known = or_parts (nat_lt ahead.taken (length ahead.table)) (not (is_more ahead.rest)) held.0 in

@@ -1,6 +1,6 @@
 -- What a reader of a feed has taken up, and what is still to come of the feed.
 use Rattle.std.proofs.Common.{◌≡◌, ◌∙◌, sym, ap, subst, refl, ℕ, ◌+◌, ◌<◌, ◌≤◌, Bool, true, false, cond, ◌||◌, List, [], ◌∷◌, ◌++◌, length, drop, take, Option, Some, None, IfSome, Result, Ok, Err, arith, append_assoc, append-nil}
-use Rattle.std.specs.Prelude.{nat_le}
+use Rattle.std.specs.Prelude.{nat_le, nat_lt, not}
 use Rattle.std.specs.List.{list_any}
 use Rattle.std.specs.Option.{option_map, option_map_or}
 use Rattle.std.specs.Io.KnownBytes.{prepend_known}
@@ -12,7 +12,7 @@ use Rattle.vx_lines.specs.TextLines.{Ending, TextLines, at_end, too_long, no_eol
 use Rattle.vx_desk.specs.declared.device.Slot.{Slot}
 use Rattle.vx_desk.specs.declared.device.Slot.TheVariants.{Feed}
 use Rattle.vx_desk.specs.Told.{Told}
-use Rattle.vx_desk.specs.Lines.{to_come}
+use Rattle.vx_desk.specs.Lines.{holds_line, to_come}
 use Rattle.vx_desk.specs.Coming.{coming}
 use Rattle.vx_feed.specs.declared.events.Event.{Event}
 use Rattle.vx_feed.specs.declared.limits.TheConstants.{LINES_MAX, LINE_LEN_MAX}
@@ -32,8 +32,11 @@ use Rattle.vx_reading.specs.declared.stop.FeedStop.{FeedStop}
 use Rattle.vx_reading.specs.declared.stop.FeedStop.TheVariants as stop
 use Rattle.vx_feed.specs.Feed.{reading_at_end, reading_from}
 use Rattle.vx_reading.specs.Stops.{IsCause, bad_cause, stop_calls}
-use Rattle.vx_reading.specs.LinesAhead.{IsAhead, IsFreshAhead, IsNoFault, TakesNext, ahead_says, fields_say, rest_says}
-use Rattle.vx_reading.specs.FeedReading.{EndsAt, HasTakenUp, IsAt, IsReadTo, NamesBad, ReadsAll, ReadsNext, ReadsTo, Says, all_good, feed_told, is_met}
+use Rattle.vx_reading.specs.LinesAhead.{ComesOn, GivesEvent, HasGiven, IsAhead, IsFaulted, IsFreshAhead, IsHeld, IsNoFault, IsNoLine, OnFault, OnOkOrFault, TakesNext, ahead_says, fields_say, is_in_hand, is_more, rest_says, still_to_come}
+use Rattle.vx_reading.specs.WhatWasRead.{EventsRead}
+use Rattle.vx_reading.specs.FeedReading.{EndsAt, HasTakenUp, IsAt, IsReadFrom, IsReadTo, NamesBad, ReadsAll, ReadsNext, ReadsTo, Says, StaysRead, all_good, feed_told, is_met}
+use Rattle.vx_reading.proofs.GivenLemmas.{comes_start, fresh_given, prepend_nothing, were_read}
+use Rattle.vx_reading.proofs.SayLemmas.{say_more, say_none}
 
 -- ---- an event that may come next
 
@@ -61,10 +64,6 @@ takes_up StandsFor old new events e has next order taker count ended =
 
 -- ---- the start
 
-nothing_waits : (left : Option (List ℕ)) → prepend_known [] left ≡ left
-nothing_waits None = refl
-nothing_waits (Some bytes) = refl
-
 twice : {A B C : Type 0} (f : A → B) (h : B → C) (o : Option A) → option_map (λ x. h (f x)) o ≡ option_map h (option_map f o)
 twice f h None = refl
 twice f h (Some x) = refl
@@ -74,7 +73,7 @@ fresh_coming ahead told fresh =
     ap (λ (s : Slot). option_map (lines_of ahead.lines.limit) (prepend_known ahead.lines.waiting (told s).left)) fresh.is_ahead.slot
     ∙ ap (λ (n : ℕ). option_map (lines_of n) (prepend_known ahead.lines.waiting (told Feed).left)) fresh.is_ahead.limit
     ∙ ap (λ (w : List ℕ). option_map (lines_of LINE_LEN_MAX) (prepend_known w (told Feed).left)) fresh.nothing
-    ∙ ap (option_map (lines_of LINE_LEN_MAX)) (nothing_waits (told Feed).left)
+    ∙ ap (option_map (lines_of LINE_LEN_MAX)) (prepend_nothing (told Feed).left)
 
 fresh_says : (ahead : LinesAhead) (told : Slot → Told) → IsFreshAhead ahead → ahead_says ahead told [] ≡ feed_told told
 fresh_says ahead told fresh =
@@ -84,11 +83,12 @@ fresh_says ahead told fresh =
     ∙ sym (twice (lines_of LINE_LEN_MAX) (λ text. reading_from [] text.lines text.ending) (told Feed).left)
 
 pub starts : {T : Type 0} (StandsFor : T → List Event → Type 0) (feed : FeedReader T) (told : Slot → Told) → IsFreshAhead feed.ahead → noted.StandsFor feed.order [] → StandsFor feed.taker []
-    → feed.count ≡ 0 → feed.has_end ≡ false → IsAt StandsFor (feed_told told) [] feed told
+    → feed.count ≡ 0 → feed.has_end ≡ false → IsAt StandsFor (told Feed).left (feed_told told) [] feed told
 starts StandsFor feed told fresh order taker count ended = record {
   taken_up = record { taker = taker; order = order; lawful = tt; count = count; few = omega arith; has_end = ended };
   ahead = fresh.is_ahead;
   rest = fresh_says feed.ahead told fresh;
+  read = record { lines = []; say = say_none; given = fresh_given feed.ahead told fresh };
 }
 
 -- ---- one line more
@@ -104,14 +104,42 @@ taken_no_fault whole events more number (stop.BadLine line why) takes = (refl, t
 taken_no_fault whole events more number stop.NoMemory takes = (refl, tt)
 taken_no_fault whole events more number stop.Device takes = elim takes [ ]
 
+-- lines ahead of which none was in hand have none in hand where only the bytes that wait and the block changed
+not_in_hand : (old new : LinesAhead) (b : Bool) → is_in_hand old ≡ b → (b ≡ true → ⊥) → new ≡ record old { lines = new.lines; block = new.block } → holds_line new.lines ≡ false → is_in_hand new ≡ false
+not_in_hand old new true is never kept none = absurd (never refl)
+not_in_hand old new false is never kept none =
+    let seen = or_parts (nat_lt old.taken (length old.table) || not (is_more old.rest)) (holds_line old.lines) is in
+    let same : (nat_lt new.taken (length new.table) || not (is_more new.rest)) ≡ false =
+    ap (λ (a : LinesAhead). nat_lt a.taken (length a.table) || not (is_more a.rest)) kept ∙ seen.0 in
+    ap (λ b. b || holds_line new.lines) same ∙ none
+
+-- the device failed, and the same events are taken up; or it is no fault of the device
+pub fault_read : {T : Type 0} (StandsFor : T → List Event → Type 0) (held : Option (List ℕ)) (whole : Option Reading) (events : List Event) (old : FeedReader T) (ahead : LinesAhead) (before after : Slot → Told) (why : FeedStop)
+    (at : IsAt StandsFor held whole events old before) → IsNoLine why → (is_in_hand old.ahead ≡ true → IsNoFault why) → OnFault {T = Unit {0}} (Err why) (IsFaulted old.ahead ahead before after)
+    → OnOkOrFault {T = Unit {0}} (Err why) (HasGiven at.read.lines held ahead after) → ReadsNext StandsFor held whole events (record old { ahead = ahead }) after (Err why)
+fault_read StandsFor held whole events old ahead before after (stop.BadLine line cause) at no_line no_fault faulted given = absurd no_line
+fault_read StandsFor held whole events old ahead before after stop.NoMemory at no_line no_fault faulted given = tt
+fault_read StandsFor held whole events old ahead before after stop.Device at no_line no_fault faulted given = (
+  record {
+    taken_up = taken_with StandsFor old ahead events at.taken_up;
+    ahead = faulted.is_ahead;
+    rest =
+        ap (λ (a : LinesAhead). option_map (λ text. fields_say (rest_says a.rest text) (drop a.taken a.table) events) (coming ahead.lines after)) faulted.kept
+        ∙ ap (option_map (λ text. fields_say (rest_says old.ahead.rest text) (drop old.ahead.taken old.ahead.table) events)) faulted.same_coming
+        ∙ at.rest;
+    read = record { lines = at.read.lines; say = at.read.say; given = given };
+  },
+  not_in_hand old.ahead ahead (is_in_hand old.ahead) refl no_fault faulted.kept faulted.none_held,
+)
+
 -- the next line is bad
-pub stop_read : {T : Type 0} (StandsFor : T → List Event → Type 0) (whole said : Option Reading) (events : List Event) (old new : FeedReader T) (told : Slot → Told) (more : List Event → Option Reading) (number : ℕ) (why : FeedStop)
-    → HasTakenUp StandsFor old events → number ≡ old.count + 1 → said ≡ whole → TakesNext said events more number (Err why) → ReadsNext StandsFor whole events new told (Err why)
-stop_read StandsFor whole said events old new told more number (stop.BadLine line why) has numbered same takes =
+pub stop_read : {T : Type 0} (StandsFor : T → List Event → Type 0) (held : Option (List ℕ)) (whole said : Option Reading) (events : List Event) (old new : FeedReader T) (told : Slot → Told) (more : List Event → Option Reading) (number : ℕ) (why : FeedStop)
+    → HasTakenUp StandsFor old events → number ≡ old.count + 1 → said ≡ whole → TakesNext said events more number (Err why) → ReadsNext StandsFor held whole events new told (Err why)
+stop_read StandsFor held whole said events old new told more number (stop.BadLine line why) has numbered same takes =
     let count : old.count ≡ length events = has.count in
     (omega (arith, count, numbered, takes.0), takes.1, subst (λ w. IfSome w (λ f. f ≡ stopped_at events (bad_cause why))) same takes.2)
-stop_read StandsFor whole said events old new told more number stop.NoMemory has numbered same takes = tt
-stop_read StandsFor whole said events old new told more number stop.Device has numbered same takes = absurd takes
+stop_read StandsFor held whole said events old new told more number stop.NoMemory has numbered same takes = tt
+stop_read StandsFor held whole said events old new told more number stop.Device has numbered same takes = absurd takes
 
 ended_by : (events : List Event) (b : Bool) → b ≡ true → cond b (all_good events) (stopped_at events feed.missing_end) ≡ all_good events
 ended_by events true is = refl
@@ -126,34 +154,46 @@ says_by None said this that same is h = tt
 says_by (Some w) None this that same is h = cc
 says_by (Some w) (Some s) this that same is h = let eq : s ≡ w = cc in sym eq ∙ h ∙ is
 
-ends_by : {T : Type 0} (StandsFor : T → List Event → Type 0) (whole said : Option Reading) (events : List Event) (old new : FeedReader T) (told : Slot → Told) (number : ℕ) (result : Result (Option Event) FeedStop) (b : Bool)
-    → old.has_end ≡ b → HasTakenUp StandsFor old events → number ≡ old.count + 1 → said ≡ whole → IsAt StandsFor whole events new told → IfSome said (λ f. f ≡ reading_at_end events at_end) → EndsAt b number result
-    → ReadsNext StandsFor whole events new told result
-ends_by StandsFor whole said events old new told number result true is has numbered same at says ends =
-    subst (λ r. ReadsNext StandsFor whole events new told r) (sym ends)
+ends_by : {T : Type 0} (StandsFor : T → List Event → Type 0) (held : Option (List ℕ)) (whole said : Option Reading) (events : List Event) (old new : FeedReader T) (told : Slot → Told) (number : ℕ) (result : Result (Option Event) FeedStop) (b : Bool)
+    → old.has_end ≡ b → HasTakenUp StandsFor old events → number ≡ old.count + 1 → said ≡ whole → IsAt StandsFor held whole events new told → IfSome said (λ f. f ≡ reading_at_end events at_end) → EndsAt b number result
+    → ReadsNext StandsFor held whole events new told result
+ends_by StandsFor held whole said events old new told number result true is has numbered same at says ends =
+    subst (λ r. ReadsNext StandsFor held whole events new told r) (sym ends)
     (at, says_by whole said (reading_at_end events at_end) (all_good events) same (ended_by events (list_any is_end events) (sym has.has_end ∙ is)) says)
-ends_by StandsFor whole said events old new told number result false is has numbered same at says ends =
+ends_by StandsFor held whole said events old new told number result false is has numbered same at says ends =
     let count : old.count ≡ length events = has.count in
-    subst (λ r. ReadsNext StandsFor whole events new told r) (sym ends)
+    subst (λ r. ReadsNext StandsFor held whole events new told r) (sym ends)
     (omega (arith, count, numbered), tt, says_by whole said (reading_at_end events at_end) (stopped_at events feed.missing_end) same (missing_by events (list_any is_end events) (sym has.has_end ∙ is)) says)
 
 -- the feed ends here
-pub end_read : {T : Type 0} (StandsFor : T → List Event → Type 0) (whole said : Option Reading) (events : List Event) (old : FeedReader T) (ahead : LinesAhead) (told : Slot → Told) (number : ℕ) (result : Result (Option Event) FeedStop)
+pub end_read : {T : Type 0} (StandsFor : T → List Event → Type 0) (held : Option (List ℕ)) (whole said : Option Reading) (events : List Event) (old : FeedReader T) (ahead : LinesAhead) (told : Slot → Told) (number : ℕ) (result : Result (Option Event) FeedStop)
     → HasTakenUp StandsFor old events → IsAhead ahead → number ≡ old.count + 1 → said ≡ whole → TakesNext said events (ahead_says ahead told) number (Ok None) → EndsAt old.has_end number result
-    → ReadsNext StandsFor whole events (record old { ahead = ahead }) told result
-end_read StandsFor whole said events old ahead told number result has is_ahead numbered same takes ends =
-    ends_by StandsFor whole said events old (record old { ahead = ahead }) told number result old.has_end refl has numbered same
-    (record { taken_up = taken_with StandsFor old ahead events has; ahead = is_ahead; rest = sym takes.0 ∙ same }) takes.1 ends
+    → IsReadFrom held events (record old { ahead = ahead }) told → ReadsNext StandsFor held whole events (record old { ahead = ahead }) told result
+end_read StandsFor held whole said events old ahead told number result has is_ahead numbered same takes ends read =
+    ends_by StandsFor held whole said events old (record old { ahead = ahead }) told number result old.has_end refl has numbered same
+    (record { taken_up = taken_with StandsFor old ahead events has; ahead = is_ahead; rest = sym takes.0 ∙ same; read = read }) takes.1 ends
 
 -- one more event is taken up
-pub more_read : {T : Type 0} (StandsFor : T → List Event → Type 0) (whole said : Option Reading) (events : List Event) (event : Event) (new : FeedReader T) (ahead : LinesAhead) (told : Slot → Told) (number : ℕ)
+pub more_read : {T : Type 0} (StandsFor : T → List Event → Type 0) (held : Option (List ℕ)) (whole said : Option Reading) (events : List Event) (event : Event) (new : FeedReader T) (ahead : LinesAhead) (told : Slot → Told) (number : ℕ)
     → HasTakenUp StandsFor new (events ++ event ∷ []) → IsAhead ahead → new.ahead ≡ ahead → said ≡ whole → TakesNext said events (ahead_says ahead told) number (Ok (Some event))
-    → IsAt StandsFor whole (events ++ event ∷ []) new told
-more_read StandsFor whole said events event new ahead told number has is_ahead is same takes = record {
+    → IsReadFrom held (events ++ event ∷ []) (record new { ahead = ahead }) told → IsAt StandsFor held whole (events ++ event ∷ []) new told
+more_read StandsFor held whole said events event new ahead told number has is_ahead is same takes read = record {
   taken_up = has;
   ahead = subst IsAhead (sym is) is_ahead;
   rest = ap (λ a. ahead_says a told (events ++ event ∷ [])) is ∙ sym takes.1 ∙ same;
+  read = record { lines = read.lines; say = read.say; given = subst (λ (a : LinesAhead). HasGiven read.lines held a told) (sym is) read.given };
 }
+
+-- the lines that were given, once those ahead of them were read on
+pub read_kept : {T : Type 0} (held : Option (List ℕ)) (events : List Event) (old new : FeedReader T) (before after : Slot → Told) (read : IsReadFrom held events old before)
+    → HasGiven read.lines held new.ahead after → IsReadFrom held events new after
+read_kept held events old new before after read given = record { lines = read.lines; say = read.say; given = given }
+
+-- and one more, which says one more event
+pub read_more : {T : Type 0} (held : Option (List ℕ)) (events : List Event) (event : Event) (old new : FeedReader T) (before after : Slot → Told) (read : IsReadFrom held events old before)
+    → GivesEvent read.lines held new.ahead after events (Ok (Some event)) → IsReadFrom held (events ++ event ∷ []) new after
+read_more held events event old new before after read gives =
+    record { lines = read.lines ++ gives.0 ∷ []; say = say_more read.lines gives.0 events event gives.1 read.say; given = gives.2 }
 
 -- ---- a feed read up to a line
 
@@ -219,9 +259,9 @@ read_to_by number events whole c size = record {
 }
 
 -- so many lines are read
-pub read_so_many : {T : Type 0} (StandsFor : T → List Event → Type 0) (whole : Option Reading) (number : ℕ) (events : List Event) (feed : FeedReader T) (told : Slot → Told)
-    → IsAt StandsFor whole events feed told → length events ≡ number → IfSome whole (IsReadTo number events)
-read_so_many StandsFor whole number events feed told at size = subst (λ w. IfSome w (IsReadTo number events)) at.rest (by (coming feed.ahead.lines told))
+pub read_so_many : {T : Type 0} (StandsFor : T → List Event → Type 0) (held : Option (List ℕ)) (whole : Option Reading) (number : ℕ) (events : List Event) (feed : FeedReader T) (told : Slot → Told)
+    → IsAt StandsFor held whole events feed told → length events ≡ number → IfSome whole (IsReadTo number events)
+read_so_many StandsFor held whole number events feed told at size = subst (λ w. IfSome w (IsReadTo number events)) at.rest (by (coming feed.ahead.lines told))
   where
     by : (text : Option TextLines) → IfSome (option_map (λ t. fields_say (rest_says feed.ahead.rest t) (drop feed.ahead.taken feed.ahead.table) events) text) (IsReadTo number events)
     by None = tt
@@ -244,31 +284,52 @@ names_bad (Some said) number line events why is_cause says is within = record {
 }
 
 -- what ends a step to a further line
-pub reads_on : {T : Type 0} (StandsFor : T → List Event → Type 0) (whole : Option Reading) (number : ℕ) (events : List Event) (feed : FeedReader T) (told : Slot → Told) (why : FeedStop)
-    → length events + 1 ≤ number → ReadsNext StandsFor whole events feed told (Err why) → ReadsTo StandsFor whole number feed told (Err why)
-reads_on StandsFor whole number events feed told (stop.BadLine line why) within h = names_bad whole number line events why h.1 h.2 h.0 within
-reads_on StandsFor whole number events feed told stop.Device within h = (events, h.0, h.1, omega (arith, within))
-reads_on StandsFor whole number events feed told stop.NoMemory within h = tt
+pub reads_on : {T : Type 0} (StandsFor : T → List Event → Type 0) (held : Option (List ℕ)) (whole : Option Reading) (number : ℕ) (events : List Event) (feed : FeedReader T) (told : Slot → Told) (why : FeedStop)
+    → length events + 1 ≤ number → ReadsNext StandsFor held whole events feed told (Err why) → ReadsTo StandsFor held whole number feed told (Err why)
+reads_on StandsFor held whole number events feed told (stop.BadLine line why) within h = names_bad whole number line events why h.1 h.2 h.0 within
+reads_on StandsFor held whole number events feed told stop.Device within h = (events, h.0, h.1, omega (arith, within))
+reads_on StandsFor held whole number events feed told stop.NoMemory within h = tt
 
 -- an answer that is found to be this one
-pub found_is : {T : Type 0} (StandsFor : T → List Event → Type 0) (whole : Option Reading) (events : List Event) (feed : FeedReader T) (told : Slot → Told) (found o : Option Event)
-    → found ≡ o → ReadsNext StandsFor whole events feed told (Ok found) → ReadsNext StandsFor whole events feed told (Ok o)
-found_is StandsFor whole events feed told found o is h = subst (λ (f : Option Event). ReadsNext StandsFor whole events feed told (Ok f)) is h
+pub found_is : {T : Type 0} (StandsFor : T → List Event → Type 0) (held : Option (List ℕ)) (whole : Option Reading) (events : List Event) (feed : FeedReader T) (told : Slot → Told) (found o : Option Event)
+    → found ≡ o → ReadsNext StandsFor held whole events feed told (Ok found) → ReadsNext StandsFor held whole events feed told (Ok o)
+found_is StandsFor held whole events feed told found o is h = subst (λ (f : Option Event). ReadsNext StandsFor held whole events feed told (Ok f)) is h
 
 -- another slot of the desk changed
-pub at_kept : {T : Type 0} (StandsFor : T → List Event → Type 0) (whole : Option Reading) (events : List Event) (feed : FeedReader T) (before after : Slot → Told)
-    → IsAt StandsFor whole events feed before → after Feed ≡ before Feed → IsAt StandsFor whole events feed after
-at_kept StandsFor whole events feed before after at same = record {
+pub at_kept : {T : Type 0} (StandsFor : T → List Event → Type 0) (held : Option (List ℕ)) (whole : Option Reading) (events : List Event) (feed : FeedReader T) (before after : Slot → Told)
+    → IsAt StandsFor held whole events feed before → after Feed ≡ before Feed → IsAt StandsFor held whole events feed after
+at_kept StandsFor held whole events feed before after at same = record {
   taken_up = at.taken_up;
   ahead = at.ahead;
   rest =
       let here : after feed.ahead.lines.slot ≡ before feed.ahead.lines.slot = subst (λ (s : Slot). after s ≡ before s) (sym at.ahead.slot) same in
       ap (λ (t : Told). option_map (λ text. fields_say (rest_says feed.ahead.rest text) (drop feed.ahead.taken feed.ahead.table) events) (option_map (lines_of feed.ahead.lines.limit) (to_come feed.ahead.lines t))) here ∙ at.rest;
+  read = record {
+    lines = at.read.lines;
+    say = at.read.say;
+    given =
+        let has = at.read.given in
+        record {
+          is_held = subst (λ (t : Told). IsHeld at.read.lines (drop feed.ahead.taken feed.ahead.block) feed.ahead.rest held (to_come feed.ahead.lines t)) (sym same) has.is_held;
+          split = has.split;
+        };
+  };
 }
 
 -- what ends the reading of the whole feed
-pub reads_rest : {T : Type 0} (StandsFor : T → List Event → Type 0) (whole : Option Reading) (events : List Event) (feed : FeedReader T) (told : Slot → Told) (why : FeedStop)
-    → ReadsNext StandsFor whole events feed told (Err why) → ReadsAll StandsFor whole feed told (Err why)
-reads_rest StandsFor whole events feed told (stop.BadLine line why) h = (h.1, events, h.0, h.2)
-reads_rest StandsFor whole events feed told stop.Device h = (events, h.0, h.1)
-reads_rest StandsFor whole events feed told stop.NoMemory h = tt
+pub reads_rest : {T : Type 0} (StandsFor : T → List Event → Type 0) (held : Option (List ℕ)) (whole : Option Reading) (events : List Event) (feed : FeedReader T) (told : Slot → Told) (why : FeedStop)
+    → ReadsNext StandsFor held whole events feed told (Err why) → ReadsAll StandsFor held whole feed told (Err why)
+reads_rest StandsFor held whole events feed told (stop.BadLine line why) h = (h.1, events, h.0, h.2)
+reads_rest StandsFor held whole events feed told stop.Device h = (events, h.0, h.1)
+reads_rest StandsFor held whole events feed told stop.NoMemory h = tt
+
+-- what was read of a feed stays read, whatever comes of it
+pub stays_read : {T : Type 0} (old : FeedReader T) (ahead : LinesAhead) (before after : Slot → Told) → ComesOn (still_to_come old.ahead before) (still_to_come ahead after) → StaysRead old before after
+stays_read old ahead before after comes = λ held events read.
+    record { lines = read.lines; were_read = were_read read.lines held old.ahead ahead before after read.given comes; say = read.say }
+
+-- what was read of a feed are lines that say these events
+pub events_read : {T : Type 0} (held : Option (List ℕ)) (events : List Event) (feed : FeedReader T) (told : Slot → Told)
+    → IsReadFrom held events feed told → EventsRead events held (told Feed)
+events_read held events feed told read =
+    stays_read feed feed.ahead told told (comes_start (still_to_come feed.ahead told)) held events read

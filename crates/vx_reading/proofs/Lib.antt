@@ -3,4 +3,6 @@ mod AheadLemmas
 pub mod FailureLemmas
 pub mod FaultLemmas
 pub mod FeedLemmas
+mod GivenLemmas
+mod SayLemmas
 mod TakeLemmas

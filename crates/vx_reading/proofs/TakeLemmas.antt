@@ -41,7 +41,8 @@ after_said text more events said whole number (Err (BadLine line why)) is says =
 after_said text more events said whole number (Err NoMemory) is says = tt
 after_said text more events said whole number (Err Device) is says = elim says [ ]
 
-drop_at : {X : Type 0} (xs : List X) (i : ℕ) (x : X) → slice_get xs i ≡ Some x → drop i xs ≡ x ∷ drop (i + 1) xs
+-- the elements from one of them on
+pub drop_at : {X : Type 0} (xs : List X) (i : ℕ) (x : X) → slice_get xs i ≡ Some x → drop i xs ≡ x ∷ drop (i + 1) xs
 drop_at xs i x is = drop_more xs i x (slice_get_within xs i x is) ∙ ap (λ y. y ∷ drop (i + 1) xs) (get_or_from_slice_get xs i x x is)
 
 -- a line that was split is taken

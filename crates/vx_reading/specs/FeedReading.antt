@@ -1,5 +1,6 @@
 -- A feed as a command reads it, with what takes up its events.
-use Rattle.std.specs.Prelude.{◌≡◌, ℕ, ◌<◌, ◌≤◌, ◌+◌, Bool, true, false, nat_le, List, [], ◌∷◌, ◌++◌, length, take, Option, Some, None, IfSome, Result, Ok, Err}
+use Rattle.std.specs.Prelude.{◌≡◌, ℕ, ◌<◌, ◌≤◌, ◌+◌, Bool, true, false, nat_le, List, [], ◌∷◌, ◌++◌, length, take}
+use Rattle.std.specs.Prelude.{Option, Some, None, IfSome, Result, Ok, Err}
 use Rattle.std.specs.Option.{option_map, option_map_or}
 use Rattle.std.specs.List.{list_any}
 use Rattle.vx_lines.specs.Cut.{HasNoLf}
@@ -18,8 +19,9 @@ use Rattle.vx_reading.specs.declared.stop.FeedCause.TheVariants.{MissingEnd}
 use Rattle.vx_reading.specs.declared.stop.FeedStop.{FeedStop}
 use Rattle.vx_reading.specs.declared.stop.FeedStop.TheVariants.{BadLine, Device, NoMemory}
 use Rattle.vx_feed.specs.Feed.{reading_of, reading_on}
-use Rattle.vx_reading.specs.LinesAhead.{IsAhead, ahead_says, is_in_hand}
+use Rattle.vx_reading.specs.LinesAhead.{HasGiven, IsAhead, ahead_says, is_in_hand}
 use Rattle.vx_reading.specs.Stops.{IsCause, bad_cause}
+use Rattle.vx_reading.specs.WhatWasRead.{EventsRead, SayEvents}
 
 -- what the feed says, where its desk tells it
 abbrev pub feed_told : (Slot → Told) → Option Reading
@@ -30,7 +32,8 @@ abbrev pub is_waiting : {T : Type 0} → FeedReader T → Bool
 is_waiting feed = is_in_hand feed.ahead
 
 -- these events were taken up
-pub record HasTakenUp {T : Type 0} (StandsFor : T → List Event → Type 0) (feed : FeedReader T) (events : List Event) : Type 0 where
+pub record HasTakenUp {T : Type 0} (StandsFor : T → List Event → Type 0) (feed : FeedReader T) (events : List Event)
+    : Type 0 where
   pub taker : StandsFor feed.taker events
   pub order : noted.StandsFor feed.order events
   pub lawful : AreLawful events
@@ -38,24 +41,42 @@ pub record HasTakenUp {T : Type 0} (StandsFor : T → List Event → Type 0) (fe
   pub few : length events ≤ LINES_MAX
   pub has_end : feed.has_end ≡ list_any is_end events
 
--- these events were taken up, and with the lines that are to come the whole feed says this, where it is told
-pub record IsAt {T : Type 0} (StandsFor : T → List Event → Type 0) (whole : Option Reading) (events : List Event) (feed : FeedReader T) (told : Slot → Told) : Type 0 where
+-- these events were read of what the feed held at first
+pub record IsReadFrom {T : Type 0} (held : Option (List ℕ)) (events : List Event) (feed : FeedReader T)
+    (told : Slot → Told) : Type 0 where
+  pub lines : List (List ℕ)
+  pub say : SayEvents lines events
+  pub given : HasGiven lines held feed.ahead told
+
+-- these events were read of what the feed held at first and are taken up, and with the lines that are to come the whole
+-- feed says this, where it is told
+pub record IsAt {T : Type 0} (StandsFor : T → List Event → Type 0) (held : Option (List ℕ)) (whole : Option Reading)
+    (events : List Event) (feed : FeedReader T) (told : Slot → Told) : Type 0 where
   pub taken_up : HasTakenUp StandsFor feed events
   pub ahead : IsAhead feed.ahead
   pub rest : ahead_says feed.ahead told events ≡ whole
+  pub read : IsReadFrom held events feed told
+
+-- what was read stays read
+abbrev pub StaysRead : {T : Type 0} → FeedReader T → (Slot → Told) → (Slot → Told) → Type 0
+StaysRead feed before after =
+    (held : Option (List ℕ)) (events : List Event) → IsReadFrom held events feed before
+    → EventsRead events held (after Feed)
 
 -- a feed that may be read on
 abbrev pub IsReading : {T : Type 0} → (T → List Event → Type 0) → FeedReader T → (Slot → Told) → Type 0
-IsReading StandsFor feed told = (whole : Option Reading) × (events : List Event) × IsAt StandsFor whole events feed told
+IsReading StandsFor feed told =
+    (held : Option (List ℕ)) × (whole : Option Reading) × (events : List Event)
+    × IsAt StandsFor held whole events feed told
 
 -- what has taken up the events of a feed
 abbrev pub IsTakerOf : {T : Type 0} → (T → List Event → Type 0) → FeedReader T → T → Type 0
 IsTakerOf StandsFor feed taker =
-    (whole : Option Reading) (events : List Event) (told : Slot → Told) → IsAt StandsFor whole events feed told
-    → StandsFor taker events
+    (held : Option (List ℕ)) (whole : Option Reading) (events : List Event) (told : Slot → Told)
+    → IsAt StandsFor held whole events feed told → StandsFor taker events
 
--- behind these events no more was read of a feed than a part of a line: what the whole feed says, that part and the bytes
--- that are left say after these events
+-- behind these events no more was read of a feed than a part of a line: what the whole feed says, that part and the
+-- bytes that are left say after these events
 pub record IsCutBehind (whole : Option Reading) (events : List Event) (told : Slot → Told) : Type 0 where
   pub part : List ℕ
   pub fits : length part ≤ LINE_LEN_MAX
@@ -79,17 +100,24 @@ EndsAt false number result = result ≡ Err (BadLine number MissingEnd)
 
 -- one more event is taken up, or the feed ends here, or the next line is bad; at a fault of the device the same events
 -- are taken up and no line is in hand; and want of memory says nothing
-abbrev pub ReadsNext : {T : Type 0} → (T → List Event → Type 0) → Option Reading → List Event → FeedReader T → (Slot → Told) → Result (Option Event) FeedStop → Type 0
-ReadsNext StandsFor whole events feed told (Ok (Some event)) = IsAt StandsFor whole (events ++ event ∷ []) feed told
-ReadsNext StandsFor whole events feed told (Ok None) = IsAt StandsFor whole events feed told × Says whole (all_good events)
-ReadsNext StandsFor whole events feed told (Err (BadLine line why)) = (line ≡ length events + 1) × IsCause why × Says whole (stopped_at events (bad_cause why))
-ReadsNext StandsFor whole events feed told (Err Device) = IsAt StandsFor whole events feed told × (is_waiting feed ≡ false)
-ReadsNext StandsFor whole events feed told (Err NoMemory) = Unit {0}
+abbrev pub ReadsNext : {T : Type 0} → (T → List Event → Type 0) → Option (List ℕ) → Option Reading → List Event
+    → FeedReader T → (Slot → Told) → Result (Option Event) FeedStop → Type 0
+ReadsNext StandsFor held whole events feed told (Ok (Some event)) =
+    IsAt StandsFor held whole (events ++ event ∷ []) feed told
+ReadsNext StandsFor held whole events feed told (Ok None) =
+    IsAt StandsFor held whole events feed told × Says whole (all_good events)
+ReadsNext StandsFor held whole events feed told (Err (BadLine line why)) =
+    (line ≡ length events + 1) × IsCause why × Says whole (stopped_at events (bad_cause why))
+ReadsNext StandsFor held whole events feed told (Err Device) =
+    IsAt StandsFor held whole events feed told × (is_waiting feed ≡ false)
+ReadsNext StandsFor held whole events feed told (Err NoMemory) = Unit {0}
 
 -- the next line is read
-abbrev pub TakesOne : {T : Type 0} → (T → List Event → Type 0) → FeedReader T → (Slot → Told) → FeedReader T → (Slot → Told) → Result (Option Event) FeedStop → Type 0
+abbrev pub TakesOne : {T : Type 0} → (T → List Event → Type 0) → FeedReader T → (Slot → Told) → FeedReader T
+    → (Slot → Told) → Result (Option Event) FeedStop → Type 0
 TakesOne StandsFor old before new after result =
-    (whole : Option Reading) (events : List Event) → IsAt StandsFor whole events old before → ReadsNext StandsFor whole events new after result
+    (held : Option (List ℕ)) (whole : Option Reading) (events : List Event)
+    → IsAt StandsFor held whole events old before → ReadsNext StandsFor held whole events new after result
 
 -- ---- the lines up to a number
 
@@ -110,32 +138,42 @@ pub record NamesBad (whole : Option Reading) (number : ℕ) (line : ℕ) (why : 
 
 -- the feed is read up to a line or to its end, or its bad line is met; at a fault of the device it is read up to an
 -- earlier line and no line is in hand; and want of memory says nothing
-abbrev pub ReadsTo : {T : Type 0} → (T → List Event → Type 0) → Option Reading → ℕ → FeedReader T → (Slot → Told) → Result Unit FeedStop → Type 0
-ReadsTo StandsFor whole number feed told (Ok _) =
-    (events : List Event) × IsAt StandsFor whole events feed told × (length events ≤ number) × IfSome whole (IsReadTo number events)
-ReadsTo StandsFor whole number feed told (Err (BadLine line why)) = NamesBad whole number line why
-ReadsTo StandsFor whole number feed told (Err Device) =
-    (events : List Event) × IsAt StandsFor whole events feed told × (is_waiting feed ≡ false) × (length events < number)
-ReadsTo StandsFor whole number feed told (Err NoMemory) = Unit {0}
+abbrev pub ReadsTo : {T : Type 0} → (T → List Event → Type 0) → Option (List ℕ) → Option Reading → ℕ → FeedReader T
+    → (Slot → Told) → Result Unit FeedStop → Type 0
+ReadsTo StandsFor held whole number feed told (Ok _) =
+    (events : List Event) × IsAt StandsFor held whole events feed told × (length events ≤ number)
+    × IfSome whole (IsReadTo number events)
+ReadsTo StandsFor held whole number feed told (Err (BadLine line why)) = NamesBad whole number line why
+ReadsTo StandsFor held whole number feed told (Err Device) =
+    (events : List Event) × IsAt StandsFor held whole events feed told × (is_waiting feed ≡ false)
+    × (length events < number)
+ReadsTo StandsFor held whole number feed told (Err NoMemory) = Unit {0}
 
 -- the lines up to this number are read, of which more were not read before
-abbrev pub TakesUpTo : {T : Type 0} → (T → List Event → Type 0) → ℕ → FeedReader T → (Slot → Told) → FeedReader T → (Slot → Told) → Result Unit FeedStop → Type 0
+abbrev pub TakesUpTo : {T : Type 0} → (T → List Event → Type 0) → ℕ → FeedReader T → (Slot → Told) → FeedReader T
+    → (Slot → Told) → Result Unit FeedStop → Type 0
 TakesUpTo StandsFor number old before new after result =
-    (whole : Option Reading) (events : List Event) → IsAt StandsFor whole events old before → length events ≤ number → ReadsTo StandsFor whole number new after result
+    (held : Option (List ℕ)) (whole : Option Reading) (events : List Event)
+    → IsAt StandsFor held whole events old before → length events ≤ number
+    → ReadsTo StandsFor held whole number new after result
 
 -- ---- the whole feed
 
 -- all lines are read and none is bad, or the bad line is met; at a fault of the device it is read up to some line and
 -- no line is in hand; and want of memory says nothing
-abbrev pub ReadsAll : {T : Type 0} → (T → List Event → Type 0) → Option Reading → FeedReader T → (Slot → Told) → Result Unit FeedStop → Type 0
-ReadsAll StandsFor whole feed told (Ok _) = (events : List Event) × IsAt StandsFor whole events feed told × Says whole (all_good events)
-ReadsAll StandsFor whole feed told (Err (BadLine line why)) =
+abbrev pub ReadsAll : {T : Type 0} → (T → List Event → Type 0) → Option (List ℕ) → Option Reading → FeedReader T
+    → (Slot → Told) → Result Unit FeedStop → Type 0
+ReadsAll StandsFor held whole feed told (Ok _) =
+    (events : List Event) × IsAt StandsFor held whole events feed told × Says whole (all_good events)
+ReadsAll StandsFor held whole feed told (Err (BadLine line why)) =
     IsCause why × (events : List Event) × (line ≡ length events + 1) × Says whole (stopped_at events (bad_cause why))
-ReadsAll StandsFor whole feed told (Err Device) =
-    (events : List Event) × IsAt StandsFor whole events feed told × (is_waiting feed ≡ false)
-ReadsAll StandsFor whole feed told (Err NoMemory) = Unit {0}
+ReadsAll StandsFor held whole feed told (Err Device) =
+    (events : List Event) × IsAt StandsFor held whole events feed told × (is_waiting feed ≡ false)
+ReadsAll StandsFor held whole feed told (Err NoMemory) = Unit {0}
 
 -- the rest of the feed is read
-abbrev pub TakesAll : {T : Type 0} → (T → List Event → Type 0) → FeedReader T → (Slot → Told) → FeedReader T → (Slot → Told) → Result Unit FeedStop → Type 0
+abbrev pub TakesAll : {T : Type 0} → (T → List Event → Type 0) → FeedReader T → (Slot → Told) → FeedReader T
+    → (Slot → Told) → Result Unit FeedStop → Type 0
 TakesAll StandsFor old before new after result =
-    (whole : Option Reading) (events : List Event) → IsAt StandsFor whole events old before → ReadsAll StandsFor whole new after result
+    (held : Option (List ℕ)) (whole : Option Reading) (events : List Event)
+    → IsAt StandsFor held whole events old before → ReadsAll StandsFor held whole new after result

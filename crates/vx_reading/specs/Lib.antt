@@ -3,4 +3,5 @@ pub mod Failures
 pub mod Stops
 pub mod Takes
 pub mod LinesAhead
+pub mod WhatWasRead
 pub mod FeedReading

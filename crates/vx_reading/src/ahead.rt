@@ -73,6 +73,7 @@ impl LinesAhead {
     ghost use Rattle.vx_reading.specs.Stops.{failed_in};
     ghost use Rattle.vx_reading.specs.LinesAhead.{AddsLast, HasNext, IsAhead, IsFaulted, IsFreshAhead, IsNoFault, IsNoLine};
     ghost use Rattle.vx_reading.specs.LinesAhead.{OnFault, SaysSame, TakesAhead, ahead_says, block_says, is_in_hand};
+    ghost use Rattle.vx_reading.specs.LinesAhead.{GivesAhead, KeepsGiven, KeepsRead, ReadsBlock, ReadsOn};
     ghost use Rattle.vx_desk.specs.Lines.{holds_line};
 
     /// The lines of a feed of which nothing was read.
@@ -119,6 +120,9 @@ impl LinesAhead {
         ensures no_line { IfErr result IsNoLine }
         ensures fault { OnFault result (IsFaulted self.old self.new (D.told desk.old) (D.told desk.new)) }
         ensures in_hand { holds_line self.old.lines ≡ true → (desk.new ≡ desk.old) × IfErr result IsNoFault }
+        ensures reads { KeepsRead self.old (D.told desk.old) self.new (D.told desk.new) result }
+        ensures block { OnFault result (self.new.block ≡ self.old.block) }
+        ensures comes_on { ReadsOn self.old (D.told desk.old) self.new (D.told desk.new) }
         ensures step { IsStep (failed_in result) (D.told desk.old) (D.told desk.new) }
         ensures others { ChangesOnly Slot.Feed (D.told desk.old) (D.told desk.new) }
     {
@@ -134,7 +138,7 @@ impl LinesAhead {
 
     /// Adds the lines that the reader holds, up to what is no line that can be split. The desk is not
     /// called.
-    #[tactic(auto, using(crate::proofs::FailureLemmas::step_same))]
+    #[tactic(auto, using(crate::proofs::FailureLemmas::step_same, crate::proofs::GivenLemmas::comes_start))]
     fn add_held<D: Desk>(&mut self, desk: &mut D) -> Result<(), FeedStop>
         requires ahead { IsAhead self.old }
         requires some { self.old.rest ≡ Rest.More → 0 < length self.old.block }
@@ -144,6 +148,8 @@ impl LinesAhead {
         ensures some { OnOk result (self.new.rest ≡ Rest.More → 0 < length self.new.block) }
         ensures no_line { IfErr result IsNoLine }
         ensures no_fault { IfErr result IsNoFault }
+        ensures reads { KeepsRead self.old (D.told desk.old) self.new (D.told desk.new) result }
+        ensures comes_on { ReadsOn self.old (D.told desk.old) self.new (D.told desk.new) }
         ensures desk { desk.new ≡ desk.old }
     {
         for _ in 1..BLOCK_LINES {
@@ -167,6 +173,8 @@ impl LinesAhead {
         ensures no_line { IfErr result IsNoLine }
         ensures fault { OnFault result (IsFaulted self.old self.new (D.told desk.old) (D.told desk.new)) }
         ensures in_hand { holds_line self.old.lines ≡ true → (desk.new ≡ desk.old) × IfErr result IsNoFault }
+        ensures reads { ReadsBlock self.old (D.told desk.old) self.new (D.told desk.new) result }
+        ensures comes_on { ReadsOn self.old (D.told desk.old) self.new (D.told desk.new) }
         ensures step { IsStep (failed_in result) (D.told desk.old) (D.told desk.new) }
         ensures others { ChangesOnly Slot.Feed (D.told desk.old) (D.told desk.new) }
     {
@@ -180,6 +188,7 @@ impl LinesAhead {
         ensures kept { (self.new.lines ≡ self.old.lines) × (self.new.rest ≡ self.old.rest) }
         ensures first { OnOk result (self.new.taken ≡ 0) }
         ensures fields { OnOk result (self.new.table ≡ map fields_of_line self.old.block) }
+        ensures block { self.new.block ≡ self.old.block }
     {
         self.taken = 0;
         self.table.fill(&self.block)
@@ -195,6 +204,8 @@ impl LinesAhead {
         ensures no_line { IfErr result IsNoLine }
         ensures fault { OnFault result (IsFaulted self.old self.new (D.told desk.old) (D.told desk.new)) }
         ensures in_hand { is_in_hand self.old ≡ true → (desk.new ≡ desk.old) × IfErr result IsNoFault }
+        ensures given { KeepsGiven self.old (D.told desk.old) self.new (D.told desk.new) result }
+        ensures comes_on { ReadsOn self.old (D.told desk.old) self.new (D.told desk.new) }
         ensures step { IsStep (failed_in result) (D.told desk.old) (D.told desk.new) }
         ensures others { ChangesOnly Slot.Feed (D.told desk.old) (D.told desk.new) }
     {
@@ -211,6 +222,8 @@ impl LinesAhead {
         requires next { HasNext self.old }
         ensures ahead { IsAhead self.new }
         ensures takes { TakesAhead self.old self.new order.now number result }
+        ensures gives { GivesAhead self.old self.new order.now result }
+        ensures lines { self.new.lines ≡ self.old.lines }
     {
         let at = self.taken;
         if at < self.table.len() {

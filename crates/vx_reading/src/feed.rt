@@ -42,16 +42,16 @@ impl<T: TakesEvents> FeedReader<T> {
     ghost use Rattle.vx_feed.specs.Order.{IsLawfulNext};
     ghost use Rattle.vx_reading.specs.Failures.{IsStep};
     ghost use Rattle.vx_reading.specs.Stops.{failed_in};
-    ghost use Rattle.vx_reading.specs.LinesAhead.{IsNoFault};
+    ghost use Rattle.vx_reading.specs.LinesAhead.{IsNoFault, ReadsOn};
     ghost use Rattle.vx_reading.specs.FeedReading.{EndsAt, HasTakenUp, IsAt, IsReading, IsTakerOf, TakesAll, TakesOne};
-    ghost use Rattle.vx_reading.specs.FeedReading.{TakesUpTo, feed_told, is_waiting};
+    ghost use Rattle.vx_reading.specs.FeedReading.{StaysRead, TakesUpTo, feed_told, is_waiting};
     ghost use Rattle.vx_reading.specs.Takes.{TakesUp};
 
     /// The reader of a feed of which no line was read.
     #[tactic(auto, using(crate::proofs::FeedLemmas::starts))]
     pub fn new(alloc: Global, taker: T) -> Result<FeedReader<T>, NoMemory>
         requires { T.StandsFor taker [] }
-        ensures { (told : Slot → Told) → IfOk result (λ feed. IsAt T.StandsFor (feed_told told) [] feed told) }
+        ensures { (told : Slot → Told) → IfOk result (λ feed. IsAt T.StandsFor (told Slot.Feed).left (feed_told told) [] feed told) }
     {
         Ok(FeedReader {
             ahead: LinesAhead::new(alloc)?,
@@ -100,6 +100,8 @@ impl<T: TakesEvents> FeedReader<T> {
         requires reading { IsReading T.StandsFor self.old (D.told desk.old) }
         requires open { IsTrue (D.told desk.old Slot.Feed).is_open }
         ensures reads { TakesOne T.StandsFor self.old (D.told desk.old) self.new (D.told desk.new) result }
+        ensures stays_read { StaysRead self.old (D.told desk.old) (D.told desk.new) }
+        ensures comes_on { ReadsOn self.old.ahead (D.told desk.old) self.new.ahead (D.told desk.new) }
         ensures in_hand { is_waiting self.old ≡ true → (desk.new ≡ desk.old) × IfErr result IsNoFault }
         ensures step { IsStep (failed_in result) (D.told desk.old) (D.told desk.new) }
         ensures others { ChangesOnly Slot.Feed (D.told desk.old) (D.told desk.new) }
@@ -116,10 +118,12 @@ impl<T: TakesEvents> FeedReader<T> {
     }
 
     /// Takes up the events of the lines up to this number, or to the end of the feed.
+    #[tactic(auto, using(crate::proofs::GivenLemmas::comes_start))]
     pub fn read_to<D: Desk>(&mut self, desk: &mut D, number: u64) -> Result<(), FeedStop>
         requires reading { IsReading T.StandsFor self.old (D.told desk.old) }
         requires open { IsTrue (D.told desk.old Slot.Feed).is_open }
         ensures reads { TakesUpTo T.StandsFor number self.old (D.told desk.old) self.new (D.told desk.new) result }
+        ensures stays_read { StaysRead self.old (D.told desk.old) (D.told desk.new) }
         ensures step { IsStep (failed_in result) (D.told desk.old) (D.told desk.new) }
         ensures others { ChangesOnly Slot.Feed (D.told desk.old) (D.told desk.new) }
     {
@@ -134,10 +138,12 @@ impl<T: TakesEvents> FeedReader<T> {
     }
 
     /// Takes up the events of all lines that are left.
+    #[tactic(auto, using(crate::proofs::GivenLemmas::comes_start))]
     pub fn read_to_end<D: Desk>(&mut self, desk: &mut D) -> Result<(), FeedStop>
         requires reading { IsReading T.StandsFor self.old (D.told desk.old) }
         requires open { IsTrue (D.told desk.old Slot.Feed).is_open }
         ensures reads { TakesAll T.StandsFor self.old (D.told desk.old) self.new (D.told desk.new) result }
+        ensures stays_read { StaysRead self.old (D.told desk.old) (D.told desk.new) }
         ensures step { IsStep (failed_in result) (D.told desk.old) (D.told desk.new) }
         ensures others { ChangesOnly Slot.Feed (D.told desk.old) (D.told desk.new) }
     {

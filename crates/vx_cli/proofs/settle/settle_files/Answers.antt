@@ -3,10 +3,8 @@ use Rattle.std.specs.Prelude.{IsTrue}
 use Rattle.std.specs.Option.{option_map}
 use Rattle.vx_desk.specs.declared.device.Slot.TheVariants.{Feed, Side, Out, Certs}
 use Rattle.vx_desk.specs.Told.{Told}
-use Rattle.vx_feed.specs.Feed.{reading_of}
 use Rattle.vx_reading.proofs.FailureLemmas.{failures_after}
 use Rattle.vx_drivers.specs.Exits.{exit_calls, is_cut}
-use Rattle.vx_drivers.specs.PositionRun.{positions_of}
 use Rattle.vx_drivers.proofs.ExitLemmas.{certs_not_feed, certs_not_out, certs_not_side, feed_not_certs, feed_not_side, out_not_certs, out_not_feed, out_not_side, side_not_certs}
 use Rattle.vx_cli.proofs.SettleLemmas.{files_settled, nothing_settled}
 use Rattle.vx_cli.proofs.settle.settle_files.Goals as goal
@@ -15,7 +13,7 @@ pub returns-in-Err-clause-sends : goal.returns-in-Err-clause-sends
 returns-in-Err-clause-sends g c =
     let before = g.D.Desk.told c.args.desk.now in
     let others = c.in-Err.ensures.others in
-    nothing_settled (option_map reading_of (g.D.Desk.holds c.args.desk.now c.args.feed.now)) (option_map positions_of (g.D.Desk.holds c.args.desk.now c.args.positions.now))
+    nothing_settled (record { feed = g.D.Desk.holds c.args.desk.now c.args.feed.now; side = g.D.Desk.holds c.args.desk.now c.args.positions.now })
     before (g.D.Desk.told c.open_slot.new.desk) c.in-Err.exit
     (ap is_cut c.in-Err.ensures.opens.0) (others Out out_not_feed)
     (ap (λ (t : Told). t.is_open) (others Certs certs_not_feed) ∙ c.requires.closed Certs certs_not_out)
@@ -27,7 +25,7 @@ returns-in-Err-open_slot-clause-sends g c =
     let first = c.in-Ok.ensures.others in
     let failed = c.in-Err-open_slot.ensures in
     let certs = failed.others Certs (certs_not_side Side refl) ∙ first Certs certs_not_feed in
-    nothing_settled (option_map reading_of (g.D.Desk.holds c.args.desk.now c.args.feed.now)) (option_map positions_of (g.D.Desk.holds c.args.desk.now c.args.positions.now))
+    nothing_settled (record { feed = g.D.Desk.holds c.args.desk.now c.args.feed.now; side = g.D.Desk.holds c.args.desk.now c.args.positions.now })
     before (g.D.Desk.told c.open_slot-2.new.desk) c.in-Err-open_slot.exit
     (ap is_cut failed.opens.0) (failed.others Out (out_not_side Side refl) ∙ first Out out_not_feed)
     (ap (λ (t : Told). t.is_open) certs ∙ c.requires.closed Certs certs_not_out) (ap (λ (t : Told). t.sent) certs)
@@ -39,7 +37,7 @@ returns-in-Err-open_slot-2-clause-sends g c =
     let second = c.in-Ok-open_slot.ensures.others in
     let failed = c.in-Err-open_slot-2.ensures in
     let certs = second Certs (certs_not_side Side refl) ∙ first Certs certs_not_feed in
-    nothing_settled (option_map reading_of (g.D.Desk.holds c.args.desk.now c.args.feed.now)) (option_map positions_of (g.D.Desk.holds c.args.desk.now c.args.positions.now))
+    nothing_settled (record { feed = g.D.Desk.holds c.args.desk.now c.args.feed.now; side = g.D.Desk.holds c.args.desk.now c.args.positions.now })
     before (g.D.Desk.told c.open_slot-3.new.desk) c.in-Err-open_slot-2.exit
     (ap is_cut failed.opens.0) (failed.others Out out_not_certs ∙ second Out (out_not_side Side refl) ∙ first Out out_not_feed)
     (failed.opens.1.is_open ∙ ap (λ (t : Told). t.is_open) certs ∙ c.requires.closed Certs certs_not_out)

@@ -1,4 +1,5 @@
 use Rattle.std.proofs.Common.{refl}
+use Rattle.vx_desk.specs.declared.device.Slot.TheVariants.{Feed}
 use Rattle.vx_reading.specs.FeedReading.{feed_told}
 use Rattle.vx_reading.proofs.FailureLemmas.{step_after}
 use Rattle.vx_drivers.specs.Exits.{exit_calls}
@@ -11,6 +12,7 @@ returns-in-Err-clause-ends g c =
 
 pub answer_all-requires-clause-may : goal.answer_all-requires-clause-may
 answer_all-requires-clause-may g c = (
+  (g.D.Desk.told c.args.desk.now Feed).left,
   feed_told (g.D.Desk.told c.args.desk.now),
   (g.D.Desk.told c.args.desk.now),
   starts g.T.AnswersTicks.rules g.T.TakesEvents.StandsFor c.in-Ok.run'
@@ -18,25 +20,26 @@ answer_all-requires-clause-may g c = (
 )
 
 pub returns-clause-ends : goal.returns-clause-ends
-returns-clause-ends g c = c.in-Err-answer_all.ensures.all (feed_told (g.D.Desk.told c.args.desk.now))
+returns-clause-ends g c = c.in-Err-answer_all.ensures.all (g.D.Desk.told c.args.desk.now Feed).left (feed_told (g.D.Desk.told c.args.desk.now))
     (g.D.Desk.told c.args.desk.now)
     (starts g.T.AnswersTicks.rules g.T.TakesEvents.StandsFor c.in-Ok.run' (g.D.Desk.told c.args.desk.now)
     c.in-Ok.ensures)
 
 pub finish-requires-clause-may : goal.finish-requires-clause-may
 finish-requires-clause-may g c = (
+  (g.D.Desk.told c.args.desk.now Feed).left,
   feed_told (g.D.Desk.told c.args.desk.now),
   (g.D.Desk.told c.args.desk.now),
-  c.in-Ok-answer_all.ensures.all
+  c.in-Ok-answer_all.ensures.all (g.D.Desk.told c.args.desk.now Feed).left
       (feed_told (g.D.Desk.told c.args.desk.now)) (g.D.Desk.told c.args.desk.now)
       (starts g.T.AnswersTicks.rules g.T.TakesEvents.StandsFor c.in-Ok.run' (g.D.Desk.told c.args.desk.now)
       c.in-Ok.ensures),
 )
 
 pub returns-in-Ok-answer_all-clause-ends : goal.returns-in-Ok-answer_all-clause-ends
-returns-in-Ok-answer_all-clause-ends g c = c.finish.ensures.ends (feed_told (g.D.Desk.told c.args.desk.now))
+returns-in-Ok-answer_all-clause-ends g c = c.finish.ensures.ends (g.D.Desk.told c.args.desk.now Feed).left (feed_told (g.D.Desk.told c.args.desk.now))
     (g.D.Desk.told c.args.desk.now)
-    (c.in-Ok-answer_all.ensures.all (feed_told (g.D.Desk.told c.args.desk.now)) (g.D.Desk.told c.args.desk.now)
+    (c.in-Ok-answer_all.ensures.all (g.D.Desk.told c.args.desk.now Feed).left (feed_told (g.D.Desk.told c.args.desk.now)) (g.D.Desk.told c.args.desk.now)
     (starts g.T.AnswersTicks.rules g.T.TakesEvents.StandsFor c.in-Ok.run' (g.D.Desk.told c.args.desk.now)
     c.in-Ok.ensures))
 

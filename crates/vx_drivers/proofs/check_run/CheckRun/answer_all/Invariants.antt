@@ -6,14 +6,15 @@ use Rattle.vx_feed.specs.Feed.{Reading}
 use Rattle.vx_lines.specs.TextLines.{TextLines}
 use Rattle.vx_reading.specs.Failures.{IsStep}
 use Rattle.vx_drivers.specs.declared.limits.TheConstants.{CERT_LINES_MAX, CERT_LINE_LEN_MAX}
+use Rattle.vx_drivers.specs.Held.{Held}
 use Rattle.vx_drivers.specs.CertificateSteps.{IsUnderWay, MayGoOn, allowed, answered_lines}
 use Rattle.vx_drivers.proofs.check_run.CheckRun.answer_all.Given as goal
 
 abbrev pub invariant-lines : goal.invariant-lines
 invariant-lines g l = record {
-  way : (feed : Option Reading) (certs : Option TextLines) (before : Told)
-      → IsUnderWay g.C.AnswersCertificates.rules g.B.TakesEvents.StandsFor feed certs before l.initial.self (g.D.Desk.told l.initial.desk) (allowed (answered_lines l.initial.self) l.initial.certs (g.D.Desk.told l.initial.desk))
-      → IsUnderWay g.C.AnswersCertificates.rules g.B.TakesEvents.StandsFor feed certs before l.self (g.D.Desk.told l.desk) (allowed (answered_lines l.self) l.certs (g.D.Desk.told l.desk));
+  way : (held : Held) (feed : Option Reading) (certs : Option TextLines) (before : Told)
+      → IsUnderWay g.C.AnswersCertificates.rules g.B.TakesEvents.StandsFor held feed certs before l.initial.self l.initial.certs (g.D.Desk.told l.initial.desk) (allowed (answered_lines l.initial.self) l.initial.certs (g.D.Desk.told l.initial.desk))
+      → IsUnderWay g.C.AnswersCertificates.rules g.B.TakesEvents.StandsFor held feed certs before l.self l.certs (g.D.Desk.told l.desk) (allowed (answered_lines l.self) l.certs (g.D.Desk.told l.desk));
   some : MayGoOn g.C.AnswersCertificates.rules g.B.TakesEvents.StandsFor l.self l.certs (g.D.Desk.told l.desk);
   reader : IsReader Side CERT_LINE_LEN_MAX l.certs;
   few : answered_lines l.self ≤ CERT_LINES_MAX;

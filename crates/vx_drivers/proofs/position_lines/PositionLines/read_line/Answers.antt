@@ -1,9 +1,11 @@
-use Rattle.std.proofs.Common.{◌≡◌, sym, subst, refl}
+use Rattle.std.proofs.Common.{◌≡◌, ◌∙◌, sym, ap, subst, refl, Err}
+use Rattle.std.proofs.lemmas.Result.{err_from_is_err_and}
 use Rattle.vx_lines.specs.TextLines.{at_end, too_long, no_eol}
 use Rattle.vx_desk.specs.Coming.{coming}
 use Rattle.vx_drivers.specs.declared.position_lines.Rest.{Rest}
 use Rattle.vx_drivers.specs.declared.position_lines.Rest.TheVariants.{End, TooLong, NoEol}
 use Rattle.vx_drivers.specs.PositionLines.{block_coming}
+use Rattle.vx_drivers.proofs.GivenLemmas.{device_open, fault_came, line_came, line_read, read_failed, wants_memory}
 use Rattle.vx_drivers.proofs.PositionLinesLemmas.{place_told, read_told, takes_cut, takes_long, takes_none}
 use Rattle.vx_drivers.proofs.RunLemmas.{takes_is}
 use Rattle.vx_drivers.proofs.position_lines.PositionLines.read_line.Goals.{in-Ok-None, in-Err-LineTooLong, in-Err-NoEol}
@@ -43,3 +45,33 @@ returns-clause-coming g c =
           subst (λ (r : Rest). block_coming (record old { lines = c.next.new.self; rest = r }) now ≡ block_coming old told) (sym w.self-is)
           (place_told old.block no_eol before after last new_last old.rest NoEol c.requires.more takes.0 takes.1 (λ text. refl)))
     ]
+
+pub returns-in_err-add-in-Ok-Some-clause-read : goal.returns-in_err-add-in-Ok-Some-clause-read
+returns-in_err-add-in-Ok-Some-clause-read g c = λ lines held given.
+    let old = c.args.self.now in
+    let before = g.D.Desk.told c.args.desk.now in
+    let after = g.D.Desk.told c.next.new.desk in
+    let p = err_from_is_err_and c.from_residual.result c.from_residual.ensures.1 in
+    rw (p.1, p.2)
+    (wants_memory lines held old c.next.new.self before after c.requires.more given
+    (line_came old.lines c.next.new.self before after c.in-Ok-Some.field-0 c.in-Ok-Some.line c.requires.reading.slot c.in-Ok-Some.field-0-is c.in-Ok-Some.ensures.answers))
+
+pub returns-in-Ok-Some-clause-read : goal.returns-in-Ok-Some-clause-read
+returns-in-Ok-Some-clause-read g c = λ lines held given.
+    let old = c.args.self.now in
+    let before = g.D.Desk.told c.args.desk.now in
+    let after = g.D.Desk.told c.next.new.desk in
+    line_read lines held old c.add.new.self c.next.new.self before after c.requires.more given
+    (line_came old.lines c.next.new.self before after c.in-Ok-Some.field-0 c.in-Ok-Some.line c.requires.reading.slot c.in-Ok-Some.field-0-is c.in-Ok-Some.ensures.answers)
+    c.add.ensures.lines c.in_ok-add-in-Ok-Some.ensures.adds
+
+pub returns-in-Err-Device-clause-read : goal.returns-in-Err-Device-clause-read
+returns-in-Err-Device-clause-read g c = λ lines held given.
+    let old = c.args.self.now in
+    let before = g.D.Desk.told c.args.desk.now in
+    let after = g.D.Desk.told c.next.new.desk in
+    read_failed lines held old c.next.new.self before after _ c.requires.more given
+    (fault_came old.lines c.next.new.self before after c.in-Err-Device.field-0 c.requires.reading.slot c.in-Err-Device.ensures.answers)
+    (c.next.ensures.limit ∙ c.requires.reading.limit)
+    (device_open old.lines c.next.new.self _ _ c.in-Err-Device.field-0 c.in-Err-Device.field-0-is c.in-Err-Device.ensures.answers)
+    (c.next.ensures.fault (c.in-Err-Device.is ∙ ap (λ f. Err f) c.in-Err-Device.field-0-is))

@@ -5,10 +5,10 @@ use Rattle.vx_drivers.specs.PositionSteps.{GoesOnPositions, allowed_positions}
 use Rattle.vx_drivers.proofs.position_run.PositionRun.settle_all.Goals as goal
 
 pub returns-in-Ok-false-clause-all : goal.returns-in-Ok-false-clause-all
-returns-in-Ok-false-clause-all g c = λ feed positions before way.
-    subst (λ (b : Bool). GoesOnPositions g.S.SettlesPositions.rules g.S.SettlesPositions.StandsAt feed positions before c.settle_next.new.self
+returns-in-Ok-false-clause-all g c = λ held feed positions before way.
+    subst (λ (b : Bool). GoesOnPositions g.S.SettlesPositions.rules g.S.SettlesPositions.StandsAt held feed positions before c.settle_next.new.self c.settle_next.new.positions
     (g.D.Desk.told c.settle_next.new.desk) (allowed_positions c.settle_next.new.self.count c.settle_next.new.positions (g.D.Desk.told c.settle_next.new.desk)) (Ok b))
-    c.in-Ok-false.field-0-test (c.in-Ok-false.ensures.goes feed positions before (c.lines.invariant.way feed positions before way))
+    c.in-Ok-false.field-0-test (c.in-Ok-false.ensures.goes held feed positions before (c.lines.invariant.way held feed positions before way))
 
 pub returns-in-Err-clause-step : goal.returns-in-Err-clause-step
 returns-in-Err-clause-step g c =

@@ -1,6 +1,6 @@
-use Rattle.std.proofs.Common.{◌≡◌, ◌==◌, ◌∙◌, sym, subst, ap, refl, ◌+◌, [], get_or, length, Option, IfSome, arith}
+use Rattle.std.proofs.Common.{◌≡◌, ◌==◌, ◌∙◌, sym, subst, ap, refl, ◌+◌, [], ◌∷◌, ◌++◌, get_or, length, Option, IfSome, arith}
 use Rattle.vx_lines.specs.TextLines.{TextLines, at_end, ended, too_many}
-use Rattle.vx_desk.specs.declared.device.Slot.TheVariants.{Side, Out, Certs}
+use Rattle.vx_desk.specs.declared.device.Slot.TheVariants.{Feed, Side, Out, Certs}
 use Rattle.vx_drivers.specs.declared.exit.PositionCause.TheVariants.{TooMany}
 use Rattle.vx_drivers.specs.declared.limits.TheConstants.{POSITION_LINES_MAX}
 use Rattle.vx_drivers.specs.declared.position_lines.Rest.{Rest}
@@ -8,19 +8,23 @@ use Rattle.vx_drivers.specs.PositionLines.{bad_behind as cause_behind}
 use Rattle.vx_drivers.specs.PositionSteps.{allowed_positions}
 use Rattle.vx_reading.proofs.FailureLemmas.{step_after}
 use Rattle.vx_drivers.specs.Exits.{exit_calls}
-use Rattle.vx_drivers.proofs.ExitLemmas.{certs_not_out, certs_not_side, out_not_side, side_not_out}
+use Rattle.vx_drivers.proofs.ExitLemmas.{certs_not_out, certs_not_side, feed_not_out, feed_not_side, out_not_side, side_not_out}
+use Rattle.vx_drivers.proofs.GivenLemmas.{given_read, line_given}
 use Rattle.vx_drivers.proofs.PositionLinesLemmas.{ends_behind, is_at_hand, next_split, none_at_hand}
 use Rattle.vx_drivers.proofs.PositionRunLemmas.{allowed_full, allowed_kept, allowed_step, bad_next, cut_short, line_bad, line_ended, none_next, settled_on, way_kept}
 use Rattle.vx_drivers.proofs.position_run.PositionRun.settle_next.Goals as goal
 
 pub returns-in-Err-clause-goes : goal.returns-in-Err-clause-goes
-returns-in-Err-clause-goes g c = λ feed positions before way.
-    cut_short g.S.SettlesPositions.rules g.S.SettlesPositions.StandsAt feed positions before c.args.self.now (g.D.Desk.told c.args.desk.now) (g.D.Desk.told c.read_on.new.desk)
+returns-in-Err-clause-goes g c = λ held feed positions before way.
+    cut_short g.S.SettlesPositions.rules g.S.SettlesPositions.StandsAt held feed positions before c.args.self.now c.args.positions.now
+    (g.D.Desk.told c.args.desk.now) (g.D.Desk.told c.read_on.new.desk)
     (allowed_positions c.args.self.now.count c.args.positions.now (g.D.Desk.told c.args.desk.now)) c.in-Err.exit way
-    (c.in-Err.ensures.others Out (out_not_side Side refl)) (c.in-Err.ensures.others Certs (certs_not_side Side refl)) c.in-Err.ensures.cut
+    (c.in-Err.ensures.others Feed (feed_not_side Side refl))
+    (c.in-Err.ensures.others Out (out_not_side Side refl)) (c.in-Err.ensures.others Certs (certs_not_side Side refl))
+    (c.in-Err.ensures.read way.lines held.side way.lines_read) c.in-Err.ensures.cut
 
 pub returns-in-None-clause-goes : goal.returns-in-None-clause-goes
-returns-in-None-clause-goes g c = λ feed positions before way.
+returns-in-None-clause-goes g c = λ held feed positions before way.
     let count = c.args.self.now.count in
     let lines = c.read_on.new.self in
     let told = g.D.Desk.told c.args.desk.now in
@@ -29,15 +33,19 @@ returns-in-None-clause-goes g c = λ feed positions before way.
     let taken = none_at_hand lines.taken (length lines.table) c.has_line.result c.has_line.ensures c.if-not-has_line.true in
     let none = ap (λ (r : Rest). cause_behind r (count == POSITION_LINES_MAX)) (sym c.rest.ensures) ∙ sym c.bad_behind.ensures ∙ c.in-None.is in
     let end = ends_behind lines.rest (count == POSITION_LINES_MAX) none (λ more. let below = c.in-Ok.ensures.next more in omega (arith, below, taken)) in (
+      lines,
       rest,
-      way_kept g.S.SettlesPositions.rules g.S.SettlesPositions.StandsAt feed positions before c.args.self.now told now rest way
-          (c.in-Ok.ensures.others Out (out_not_side Side refl)) (c.in-Ok.ensures.others Certs (certs_not_side Side refl)),
-      subst (λ (o : Option TextLines). IfSome o (λ text. text ≡ ended at_end)) (sym (allowed_kept count c.args.positions.now lines told now c.in-Ok.ensures.coming))
+      way_kept g.S.SettlesPositions.rules g.S.SettlesPositions.StandsAt held feed positions before c.args.self.now c.args.positions.now lines told now rest way
+          (c.in-Ok.ensures.others Feed (feed_not_side Side refl)) (c.in-Ok.ensures.others Out (out_not_side Side refl))
+          (c.in-Ok.ensures.others Certs (certs_not_side Side refl))
+          (c.in-Ok.ensures.read way.lines held.side way.lines_read),
+      subst (λ (o : Option TextLines). IfSome o (λ text. text ≡ ended at_end))
+          (sym (allowed_kept count c.args.positions.now lines told now c.in-Ok.ensures.coming))
           (none_next count lines now c.in-Ok.ensures.lines taken end),
     )
 
 pub returns-in-Some-clause-goes : goal.returns-in-Some-clause-goes
-returns-in-Some-clause-goes g c = λ feed positions before way.
+returns-in-Some-clause-goes g c = λ held feed positions before way.
     let count = c.args.self.now.count in
     let lines = c.read_on.new.self in
     let told = g.D.Desk.told c.args.desk.now in
@@ -45,24 +53,27 @@ returns-in-Some-clause-goes g c = λ feed positions before way.
     let taken = none_at_hand lines.taken (length lines.table) c.has_line.result c.has_line.ensures c.if-not-has_line.true in
     let is_bad = ap (λ (r : Rest). cause_behind r (count == POSITION_LINES_MAX)) (sym c.rest.ensures) ∙ sym c.bad_behind.ensures ∙ c.in-Some.is in
     let bad = bad_next g.S.SettlesPositions.rules count lines now c.in-Some.cause g.met.S.SettlesPositions.none_unsplit c.in-Ok.ensures.lines taken c.requires.few is_bad in
-    line_bad g.S.SettlesPositions.rules g.S.SettlesPositions.StandsAt feed positions before c.args.self.now told now
+    line_bad g.S.SettlesPositions.rules g.S.SettlesPositions.StandsAt held feed positions before c.args.self.now c.args.positions.now told now
     (allowed_positions count c.args.positions.now told) bad.left c.bad_line.result c.in-Some.cause way
     (c.in-Ok.ensures.others Out (out_not_side Side refl)) (c.in-Ok.ensures.others Certs (certs_not_side Side refl)) c.bad_line.ensures
-    (subst (λ (o : Option TextLines). IfSome o (λ text. text ≡ bad.left)) (sym (allowed_kept count c.args.positions.now lines told now c.in-Ok.ensures.coming)) bad.left_is)
+    (subst (λ (o : Option TextLines). IfSome o (λ text. text ≡ bad.left))
+    (sym (allowed_kept count c.args.positions.now lines told now c.in-Ok.ensures.coming)) bad.left_is)
     bad.bad
 
 pub returns-then-self-eq-POSITION_LINES_MAX-clause-goes : goal.returns-then-self-eq-POSITION_LINES_MAX-clause-goes
-returns-then-self-eq-POSITION_LINES_MAX-clause-goes g c = λ feed positions before way.
+returns-then-self-eq-POSITION_LINES_MAX-clause-goes g c = λ held feed positions before way.
     let count = c.args.self.now.count in
     let lines = c.read_on.new.self in
     let told = g.D.Desk.told c.args.desk.now in
     let now = g.D.Desk.told c.read_on.new.desk in
     let below = is_at_hand lines.taken (length lines.table) c.has_line.result c.has_line.ensures c.if-not-has_line.false in
     let full : count ≡ POSITION_LINES_MAX = c.if-self-eq-POSITION_LINES_MAX.true in
-    line_bad g.S.SettlesPositions.rules g.S.SettlesPositions.StandsAt feed positions before c.args.self.now told now
+    line_bad g.S.SettlesPositions.rules g.S.SettlesPositions.StandsAt held feed positions before c.args.self.now c.args.positions.now told now
     (allowed_positions count c.args.positions.now told) (ended too_many) c.bad_line-then-self-eq-POSITION_LINES_MAX.result TooMany way
-    (c.in-Ok.ensures.others Out (out_not_side Side refl)) (c.in-Ok.ensures.others Certs (certs_not_side Side refl)) c.bad_line-then-self-eq-POSITION_LINES_MAX.ensures
-    (subst (λ (o : Option TextLines). IfSome o (λ text. text ≡ ended too_many)) (sym (allowed_kept count c.args.positions.now lines told now c.in-Ok.ensures.coming))
+    (c.in-Ok.ensures.others Out (out_not_side Side refl))
+    (c.in-Ok.ensures.others Certs (certs_not_side Side refl)) c.bad_line-then-self-eq-POSITION_LINES_MAX.ensures
+    (subst (λ (o : Option TextLines). IfSome o (λ text. text ≡ ended too_many))
+    (sym (allowed_kept count c.args.positions.now lines told now c.in-Ok.ensures.coming))
     (allowed_full count lines now c.in-Ok.ensures.lines below full))
     (λ answer. refl)
 
@@ -73,7 +84,7 @@ settle_line-requires-clause-split g c =
     (get_or lines.block lines.taken [], next_split lines c.fields.result c.in-Ok.ensures.lines below c.fields.ensures)
 
 pub returns-in-Ok-settle_line-clause-goes : goal.returns-in-Ok-settle_line-clause-goes
-returns-in-Ok-settle_line-clause-goes g c = λ feed positions before way.
+returns-in-Ok-settle_line-clause-goes g c = λ held feed positions before way.
     let count = c.args.self.now.count in
     let lines = c.read_on.new.self in
     let told = g.D.Desk.told c.args.desk.now in
@@ -82,18 +93,25 @@ returns-in-Ok-settle_line-clause-goes g c = λ feed positions before way.
     let rest = allowed_positions count c.args.positions.now told in
     let below = is_at_hand lines.taken (length lines.table) c.has_line.result c.has_line.ensures c.if-not-has_line.false in
     let text = get_or lines.block lines.taken [] in
-    let kept = way_kept g.S.SettlesPositions.rules g.S.SettlesPositions.StandsAt feed positions before c.args.self.now told read rest way
-    (c.in-Ok.ensures.others Out (out_not_side Side refl)) (c.in-Ok.ensures.others Certs (certs_not_side Side refl)) in
-    settled_on g.S.SettlesPositions.rules g.S.SettlesPositions.StandsAt feed positions before c.args.self.now c.settle_line.new.self read now
+    let kept = way_kept g.S.SettlesPositions.rules g.S.SettlesPositions.StandsAt held feed positions before c.args.self.now c.args.positions.now lines told read rest way
+    (c.in-Ok.ensures.others Feed (feed_not_side Side refl)) (c.in-Ok.ensures.others Out (out_not_side Side refl))
+    (c.in-Ok.ensures.others Certs (certs_not_side Side refl))
+    (c.in-Ok.ensures.read way.lines held.side way.lines_read) in
+    settled_on g.S.SettlesPositions.rules g.S.SettlesPositions.StandsAt held feed positions before c.args.self.now c.settle_line.new.self lines c.take.new.self read now
     rest (allowed_positions c.settle_line.new.self.count c.take.new.self now) text kept
     (allowed_kept count c.args.positions.now lines told read c.in-Ok.ensures.coming
     ∙ allowed_step count c.settle_line.new.self.count lines c.take.new.self read now c.in-Ok.ensures.lines below c.take.ensures
-    (c.in-Ok-settle_line.ensures.others Side side_not_out) c.in-Ok-settle_line.ensures.lines (omega (arith, c.requires.few, c.if-self-eq-POSITION_LINES_MAX.false)))
-    (c.in-Ok-settle_line.ensures.others Certs certs_not_out) c.in-Ok-settle_line.ensures.lines
-    (c.in-Ok-settle_line.ensures.settles text (next_split lines c.fields.result c.in-Ok.ensures.lines below c.fields.ensures) kept.answer kept.items kept.sheet kept.count)
+    (c.in-Ok-settle_line.ensures.others Side side_not_out) c.in-Ok-settle_line.ensures.lines
+    (omega (arith, c.requires.few, c.if-self-eq-POSITION_LINES_MAX.false)))
+    (c.in-Ok-settle_line.ensures.others Feed feed_not_out) (c.in-Ok-settle_line.ensures.others Certs certs_not_out)
+    (line_given kept.lines held.side lines c.take.new.self read now c.in-Ok.ensures.lines below c.take.ensures
+    (c.in-Ok-settle_line.ensures.others Side side_not_out) kept.lines_read)
+    c.in-Ok-settle_line.ensures.lines
+    (c.in-Ok-settle_line.ensures.settles text
+    (next_split lines c.fields.result c.in-Ok.ensures.lines below c.fields.ensures) kept.answer kept.items kept.sheet kept.count)
 
 pub returns-in-Err-settle_line-clause-goes : goal.returns-in-Err-settle_line-clause-goes
-returns-in-Err-settle_line-clause-goes g c = λ feed positions before way.
+returns-in-Err-settle_line-clause-goes g c = λ held feed positions before way.
     let count = c.args.self.now.count in
     let lines = c.read_on.new.self in
     let next = record lines { taken = lines.taken + 1 } in
@@ -103,14 +121,22 @@ returns-in-Err-settle_line-clause-goes g c = λ feed positions before way.
     let rest = allowed_positions count c.args.positions.now told in
     let below = is_at_hand lines.taken (length lines.table) c.has_line.result c.has_line.ensures c.if-not-has_line.false in
     let text = get_or lines.block lines.taken [] in
-    let kept = way_kept g.S.SettlesPositions.rules g.S.SettlesPositions.StandsAt feed positions before c.args.self.now told read rest way
-    (c.in-Ok.ensures.others Out (out_not_side Side refl)) (c.in-Ok.ensures.others Certs (certs_not_side Side refl)) in
-    line_ended g.S.SettlesPositions.rules g.S.SettlesPositions.StandsAt feed positions before c.args.self.now c.settle_line.new.self read now
+    let kept = way_kept g.S.SettlesPositions.rules g.S.SettlesPositions.StandsAt held feed positions before c.args.self.now c.args.positions.now lines told read rest way
+    (c.in-Ok.ensures.others Feed (feed_not_side Side refl)) (c.in-Ok.ensures.others Out (out_not_side Side refl))
+    (c.in-Ok.ensures.others Certs (certs_not_side Side refl))
+    (c.in-Ok.ensures.read way.lines held.side way.lines_read) in
+    line_ended g.S.SettlesPositions.rules g.S.SettlesPositions.StandsAt held feed positions before c.args.self.now c.settle_line.new.self lines read now
     rest (allowed_positions (count + 1) next read) text c.in-Err-settle_line.exit kept
     (allowed_kept count c.args.positions.now lines told read c.in-Ok.ensures.coming
-    ∙ allowed_step count (count + 1) lines next read read c.in-Ok.ensures.lines below refl refl refl (omega (arith, c.requires.few, c.if-self-eq-POSITION_LINES_MAX.false)))
+    ∙ allowed_step count (count + 1) lines next read read c.in-Ok.ensures.lines below refl refl refl
+    (omega (arith, c.requires.few, c.if-self-eq-POSITION_LINES_MAX.false)))
+    (c.in-Err-settle_line.ensures.others Feed feed_not_out) (c.in-Err-settle_line.ensures.others Side side_not_out)
     (c.in-Err-settle_line.ensures.others Certs certs_not_out)
-    (c.in-Err-settle_line.ensures.settles text (next_split lines c.fields.result c.in-Ok.ensures.lines below c.fields.ensures) kept.answer kept.items kept.sheet kept.count)
+    (given_read (kept.lines ++ text ∷ []) held.side next now
+    (line_given kept.lines held.side lines next read now c.in-Ok.ensures.lines below refl
+    (c.in-Err-settle_line.ensures.others Side side_not_out) kept.lines_read))
+    (c.in-Err-settle_line.ensures.settles text
+    (next_split lines c.fields.result c.in-Ok.ensures.lines below c.fields.ensures) kept.answer kept.items kept.sheet kept.count)
 
 pub returns-in-Err-settle_line-clause-step : goal.returns-in-Err-settle_line-clause-step
 returns-in-Err-settle_line-clause-step g c =

@@ -5,10 +5,10 @@ use Rattle.vx_drivers.specs.TickSteps.{GoesOnTicks}
 use Rattle.vx_drivers.proofs.tick_run.TickRun.answer_all.Goals as goal
 
 pub returns-in-Ok-false-clause-all : goal.returns-in-Ok-false-clause-all
-returns-in-Ok-false-clause-all g c = λ feed before way.
-    subst (λ (b : Bool). GoesOnTicks g.T.AnswersTicks.rules g.T.TakesEvents.StandsFor feed before c.answer_next.new.self
+returns-in-Ok-false-clause-all g c = λ held feed before way.
+    subst (λ (b : Bool). GoesOnTicks g.T.AnswersTicks.rules g.T.TakesEvents.StandsFor held feed before c.answer_next.new.self
     (g.D.Desk.told c.answer_next.new.desk) (Ok b)) c.in-Ok-false.field-0-test
-    (c.in-Ok-false.ensures.goes feed before (c.events.invariant.way feed before way))
+    (c.in-Ok-false.ensures.goes held feed before (c.events.invariant.way held feed before way))
 
 pub returns-in-Err-clause-step : goal.returns-in-Err-clause-step
 returns-in-Err-clause-step g c =

@@ -1,4 +1,4 @@
-use Rattle.std.proofs.Common.{◌≡◌, ◌-◌, Option, None, IsTrue}
+use Rattle.std.proofs.Common.{◌≡◌, ◌-◌, ℕ, List, Option, None, IsTrue}
 use Rattle.vx_desk.specs.declared.device.Slot.{Slot}
 use Rattle.vx_desk.specs.declared.device.Slot.TheVariants.{Feed, Side, Out, Certs}
 use Rattle.vx_desk.specs.Told.{Told}
@@ -10,9 +10,9 @@ use Rattle.vx_drivers.proofs.tick_run.TickRun.answer_all.Given as goal
 
 abbrev pub invariant-events : goal.invariant-events
 invariant-events g l = record {
-  way : (feed : Option Reading) (before : Slot → Told)
-      → HasAnswered g.T.AnswersTicks.rules g.T.TakesEvents.StandsFor feed before l.initial.self (g.D.Desk.told l.initial.desk)
-      → HasAnswered g.T.AnswersTicks.rules g.T.TakesEvents.StandsFor feed before l.self (g.D.Desk.told l.desk);
+  way : (held : Option (List ℕ)) (feed : Option Reading) (before : Slot → Told)
+      → HasAnswered g.T.AnswersTicks.rules g.T.TakesEvents.StandsFor held feed before l.initial.self (g.D.Desk.told l.initial.desk)
+      → HasAnswered g.T.AnswersTicks.rules g.T.TakesEvents.StandsFor held feed before l.self (g.D.Desk.told l.desk);
   may : MayGoOnTicks g.T.AnswersTicks.rules g.T.TakesEvents.StandsFor l.self (g.D.Desk.told l.desk);
   feed : IsTrue (g.D.Desk.told l.desk Feed).is_open;
   certs : IsTrue (g.D.Desk.told l.desk Certs).is_open;

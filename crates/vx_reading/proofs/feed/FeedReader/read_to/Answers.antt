@@ -1,20 +1,22 @@
-use Rattle.std.proofs.Common.{◌≡◌, ◌∙◌, sym, subst, ◌+◌, ◌≤◌, List, [], ◌∷◌, ◌++◌, length, Option, Some, None, IsTrue, arith}
+use Rattle.std.proofs.Common.{◌≡◌, ◌∙◌, sym, subst, ℕ, ◌+◌, ◌≤◌, List, [], ◌∷◌, ◌++◌, length, Option, Some, None, IsTrue, arith}
 use Rattle.std.proofs.lemmas.List.{length_push}
 use Rattle.vx_desk.specs.declared.device.Slot.TheVariants.{Feed}
 use Rattle.vx_feed.specs.declared.events.Event.{Event}
 use Rattle.vx_feed.specs.Feed.{Reading}
 use Rattle.vx_reading.specs.Stops.{stop_calls}
 use Rattle.vx_reading.specs.FeedReading.{IsAt}
+use Rattle.vx_reading.specs.LinesAhead.{still_to_come}
 use Rattle.vx_reading.proofs.FailureLemmas.{step_after}
-use Rattle.vx_reading.proofs.FeedLemmas.{found_is, reads_on, read_all, read_so_many}
+use Rattle.vx_reading.proofs.GivenLemmas.{comes_twice}
+use Rattle.vx_reading.proofs.FeedLemmas.{stays_read, found_is, reads_on, read_all, read_so_many}
 use Rattle.vx_reading.proofs.feed.FeedReader.read_to.Goals as goal
 
 pub returns-in-Err-clause-reads : goal.returns-in-Err-clause-reads
-returns-in-Err-clause-reads g c = λ whole events start within.
-    let now = c.loop.invariant.at whole events start in
+returns-in-Err-clause-reads g c = λ held whole events start within.
+    let now = c.loop.invariant.at held whole events start in
     let count : c.loop.self.count ≡ length now.0 = now.1.taken_up.count in
-    reads_on g.T.TakesEvents.StandsFor whole c.args.number now.0 c.read_next.new.self (g.D.Desk.told c.read_next.new.desk) c.in-Err.stop
-    (omega (arith, count, c.loop.invariant.count, c.loop-test.true)) (c.in-Err.ensures.reads whole now.0 now.1)
+    reads_on g.T.TakesEvents.StandsFor held whole c.args.number now.0 c.read_next.new.self (g.D.Desk.told c.read_next.new.desk) c.in-Err.stop
+    (omega (arith, count, c.loop.invariant.count, c.loop-test.true)) (c.in-Err.ensures.reads held whole now.0 now.1)
 
 pub returns-in-Err-clause-step : goal.returns-in-Err-clause-step
 returns-in-Err-clause-step g c =
@@ -22,40 +24,58 @@ returns-in-Err-clause-step g c =
     record { failures = step.failures; slots = step.slots }
 
 pub returns-in-Ok-None-clause-reads : goal.returns-in-Ok-None-clause-reads
-returns-in-Ok-None-clause-reads g c = λ whole events start within.
-    let now = c.loop.invariant.at whole events start in
+returns-in-Ok-None-clause-reads g c = λ held whole events start within.
+    let now = c.loop.invariant.at held whole events start in
     let count : c.loop.self.count ≡ length now.0 = now.1.taken_up.count in
-    let end = found_is g.T.TakesEvents.StandsFor whole now.0 c.read_next.new.self (g.D.Desk.told c.read_next.new.desk) c.in-Ok-None.field-0 None
-    c.in-Ok-None.field-0-is (c.in-Ok-None.ensures.reads whole now.0 now.1) in
+    let end = found_is g.T.TakesEvents.StandsFor held whole now.0 c.read_next.new.self (g.D.Desk.told c.read_next.new.desk) c.in-Ok-None.field-0 None
+    c.in-Ok-None.field-0-is (c.in-Ok-None.ensures.reads held whole now.0 now.1) in
     let few : length now.0 ≤ c.args.number = omega (arith, count, c.loop.invariant.count, c.loop-test.true) in
     (now.0, end.0, few, read_all whole c.args.number now.0 end.1 few)
 
 pub loop-preserved : goal.loop-preserved
 loop-preserved g c =
-    let then = λ (whole : Option Reading) (now : List Event) (at : IsAt g.T.TakesEvents.StandsFor whole now c.loop.self (g.D.Desk.told c.loop.desk)).
-    found_is g.T.TakesEvents.StandsFor whole now c.read_next.new.self (g.D.Desk.told c.read_next.new.desk) c.in-Ok-Some.field-0 (Some c.in-Ok-Some._event)
-    c.in-Ok-Some.field-0-is (c.in-Ok-Some.ensures.reads whole now at) in
+    let then = λ (held : Option (List ℕ)) (whole : Option Reading) (now : List Event) (at : IsAt g.T.TakesEvents.StandsFor held whole now c.loop.self (g.D.Desk.told c.loop.desk)).
+    found_is g.T.TakesEvents.StandsFor held whole now c.read_next.new.self (g.D.Desk.told c.read_next.new.desk) c.in-Ok-Some.field-0 (Some c.in-Ok-Some._event)
+    c.in-Ok-Some.field-0-is (c.in-Ok-Some.ensures.reads held whole now at) in
     let some = c.loop.invariant.reading in
-    let further = then some.0 some.1 some.2 in
-    let before : c.loop.self.count ≡ length some.1 = some.2.taken_up.count in
-    let after : c.read_next.new.self.count ≡ length (some.1 ++ c.in-Ok-Some._event ∷ []) = further.taken_up.count in
-    let size : length (some.1 ++ c.in-Ok-Some._event ∷ []) ≡ length some.1 + 1 = length_push some.1 c.in-Ok-Some._event in
+    let further = then some.0 some.1 some.2 some.3 in
+    let before : c.loop.self.count ≡ length some.2 = some.3.taken_up.count in
+    let after : c.read_next.new.self.count ≡ length (some.2 ++ c.in-Ok-Some._event ∷ []) = further.taken_up.count in
+    let size : length (some.2 ++ c.in-Ok-Some._event ∷ []) ≡ length some.2 + 1 = length_push some.2 c.in-Ok-Some._event in
     record {
-      at = λ whole events start. let now = c.loop.invariant.at whole events start in (now.0 ++ c.in-Ok-Some._event ∷ [], then whole now.0 now.1);
-      reading = (some.0, some.1 ++ c.in-Ok-Some._event ∷ [], further);
+      at = λ held whole events start. let now = c.loop.invariant.at held whole events start in (now.0 ++ c.in-Ok-Some._event ∷ [], then held whole now.0 now.1);
+      reading = (some.0, some.1, some.2 ++ c.in-Ok-Some._event ∷ [], further);
       count = omega (arith, before, after, size, c.loop.invariant.count);
       is_open = subst IsTrue (sym (c.in-Ok-Some.ensures.step.slots.is_open Feed)) c.loop.invariant.is_open;
       step = step_after None (g.D.Desk.told c.args.desk.now) (g.D.Desk.told c.loop.desk) (g.D.Desk.told c.read_next.new.desk) c.loop.invariant.step
           (record { failures = c.in-Ok-Some.ensures.step.failures; slots = c.in-Ok-Some.ensures.step.slots });
       others = λ slot other. c.in-Ok-Some.ensures.others slot other ∙ c.loop.invariant.others slot other;
+      comes_on = comes_twice (still_to_come c.args.self.now.ahead (g.D.Desk.told c.args.desk.now)) (still_to_come c.loop.self.ahead (g.D.Desk.told c.loop.desk))
+          (still_to_come c.read_next.new.self.ahead (g.D.Desk.told c.read_next.new.desk)) c.loop.invariant.comes_on c.in-Ok-Some.ensures.comes_on;
     }
 
 pub returns-clause-reads : goal.returns-clause-reads
-returns-clause-reads g c = λ whole events start within.
-    let now = c.loop.invariant.at whole events start in
+returns-clause-reads g c = λ held whole events start within.
+    let now = c.loop.invariant.at held whole events start in
     let first : c.args.self.now.count ≡ length events = start.taken_up.count in
     let few : length events ≤ c.args.number = within in
     let count : c.loop.self.count ≡ length now.0 = now.1.taken_up.count in
     let ahead : c.args.self.now.count ≤ c.args.number = omega (arith, first, few) in
     let size : length now.0 ≡ c.args.number = omega (arith, count, c.loop.invariant.count, c.loop-test.false, c.loop.auto.counter-end ahead) in
-    (now.0, now.1, omega (arith, size), read_so_many g.T.TakesEvents.StandsFor whole c.args.number now.0 c.loop.self (g.D.Desk.told c.loop.desk) now.1 size)
+    (now.0, now.1, omega (arith, size), read_so_many g.T.TakesEvents.StandsFor held whole c.args.number now.0 c.loop.self (g.D.Desk.told c.loop.desk) now.1 size)
+
+pub returns-in-Ok-None-clause-stays_read : goal.returns-in-Ok-None-clause-stays_read
+returns-in-Ok-None-clause-stays_read g c =
+    stays_read c.args.self.now c.read_next.new.self.ahead (g.D.Desk.told c.args.desk.now) (g.D.Desk.told c.read_next.new.desk)
+    (comes_twice (still_to_come c.args.self.now.ahead (g.D.Desk.told c.args.desk.now)) (still_to_come c.loop.self.ahead (g.D.Desk.told c.loop.desk))
+    (still_to_come c.read_next.new.self.ahead (g.D.Desk.told c.read_next.new.desk)) c.loop.invariant.comes_on c.in-Ok-None.ensures.comes_on)
+
+pub returns-in-Err-clause-stays_read : goal.returns-in-Err-clause-stays_read
+returns-in-Err-clause-stays_read g c =
+    stays_read c.args.self.now c.read_next.new.self.ahead (g.D.Desk.told c.args.desk.now) (g.D.Desk.told c.read_next.new.desk)
+    (comes_twice (still_to_come c.args.self.now.ahead (g.D.Desk.told c.args.desk.now)) (still_to_come c.loop.self.ahead (g.D.Desk.told c.loop.desk))
+    (still_to_come c.read_next.new.self.ahead (g.D.Desk.told c.read_next.new.desk)) c.loop.invariant.comes_on c.in-Err.ensures.comes_on)
+
+pub returns-clause-stays_read : goal.returns-clause-stays_read
+returns-clause-stays_read g c =
+    stays_read c.args.self.now c.loop.self.ahead (g.D.Desk.told c.args.desk.now) (g.D.Desk.told c.loop.desk) c.loop.invariant.comes_on
