@@ -6,7 +6,7 @@ use Rattle.vx_desk.specs.declared.device.Slot.{Slot}
 use Rattle.vx_desk.specs.declared.device.Slot.TheVariants.{Feed, Side, Out, Certs}
 use Rattle.vx_desk.specs.Told.{ChangesOnly, IsOpened, OnlyOutIsOpen, SameContent, Told}
 use Rattle.vx_feed.specs.Feed.{reading_of}
-use Rattle.vx_reading.specs.Failures.{KeepsSlots}
+use Rattle.vx_desk.specs.Calls.{KeepsSlots}
 use Rattle.vx_drivers.specs.declared.exit.Exit.{Exit}
 use Rattle.vx_drivers.specs.declared.exit.Exit.TheVariants.{Done, SaidNo, Usage, BadFeed, OpenFault, ReadFault, WriteFault, NoMemory, BadPositions, BadCerts}
 use Rattle.vx_drivers.specs.CertificateExits.{IsCertificateExit}

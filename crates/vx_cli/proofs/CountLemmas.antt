@@ -7,7 +7,7 @@ use Rattle.vx_feed.specs.Feed.{Reading}
 use Rattle.vx_reading.specs.declared.feed.FeedReader.{FeedReader}
 use Rattle.vx_reading.specs.declared.stop.FeedStop.{FeedStop}
 use Rattle.vx_reading.specs.declared.stop.FeedStop.TheVariants.{BadLine, Device, NoMemory}
-use Rattle.vx_reading.specs.Failures.{IsStep}
+use Rattle.vx_desk.specs.Calls.{IsStep}
 use Rattle.vx_reading.specs.FeedReading.{IsAt, ReadsAll, Says, all_good, feed_told}
 use Rattle.vx_reading.specs.Stops.{bad_cause, stop_calls}
 use Rattle.vx_cli.specs.declared.drill.AnswerCounts.{AnswerCounts}

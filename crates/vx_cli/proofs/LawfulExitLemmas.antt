@@ -11,7 +11,7 @@ use Rattle.vx_feed.specs.Feed.{BadLine, IsLawfulFeed, Reading, reading_of}
 use Rattle.vx_settle.specs.declared.fault.PositionFault.{PositionFault}
 use Rattle.vx_settle.specs.declared.position.Position.{Position}
 use Rattle.vx_settle.specs.Form.{position_of_line}
-use Rattle.vx_reading.specs.Failures.{Calls, Failures, failures}
+use Rattle.vx_desk.specs.Calls.{Calls, Failures, failures}
 use Rattle.vx_reading.specs.FeedReading.{Says}
 use Rattle.vx_drivers.specs.declared.exit.Exit.{Exit}
 use Rattle.vx_drivers.specs.declared.exit.Exit.TheVariants.{Done, SaidNo, Usage, BadFeed, OpenFault, ReadFault, WriteFault, NoMemory, BadPositions, BadCerts}

@@ -3,7 +3,7 @@ use Rattle.std.proofs.Common.{◌≡◌, ◌≢◌, ℕ, ◌<◌, ◌≤◌, Lis
 use Rattle.vx_desk.specs.declared.device.Slot.{Slot}
 use Rattle.vx_desk.specs.declared.device.Slot.TheVariants.{Feed, Side, Out, Certs}
 use Rattle.vx_desk.specs.Told.{Reads}
-use Rattle.vx_reading.specs.Failures.{IsStep, read_call}
+use Rattle.vx_desk.specs.Calls.{IsStep, read_call}
 use Rattle.vx_cli.specs.TextDesk.{told_text}
 
 -- the next bytes of the text are read

@@ -7,7 +7,7 @@ use Rattle.vx_desk.specs.Told.{Told, LAST_COUNT}
 use Rattle.vx_feed.specs.Feed.{IsLawfulFeed}
 use Rattle.vx_settle.specs.declared.position.Position.{Position}
 use Rattle.vx_settle.specs.Form.{position_of_line}
-use Rattle.vx_reading.specs.Failures.{Calls, NoFailure, failures}
+use Rattle.vx_desk.specs.Calls.{Calls, NoFailure, failures}
 use Rattle.vx_drivers.specs.declared.exit.Exit.{Exit}
 use Rattle.vx_drivers.specs.declared.exit.Exit.TheVariants.{Done, SaidNo, NoMemory, BadCerts}
 use Rattle.vx_drivers.specs.PositionRun.{positions_of}

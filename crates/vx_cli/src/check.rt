@@ -2,7 +2,7 @@
 
 ghost use Rattle.std.specs.Prelude.{◌≡◌, IsTrue, false};
 ghost use Rattle.vx_desk.specs.Told.{OnlyOutIsOpen};
-ghost use Rattle.vx_reading.specs.Failures.{Failures, IsStep};
+ghost use Rattle.vx_desk.specs.Calls.{Failures, IsStep};
 ghost use Rattle.vx_drivers.specs.CertificateExits.{IsCertificateExit};
 ghost use Rattle.vx_drivers.specs.Exits.{exit_calls};
 ghost use Rattle.vx_cli.specs.Runs.{ChecksFiles, ChecksOpen, IsCheckExit, OpensToCheck};

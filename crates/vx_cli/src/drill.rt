@@ -3,7 +3,7 @@
 ghost use Rattle.std.specs.Prelude.{◌≡◌, ◌++◌, ◌<◌, ◌≤◌, ◌∷◌, IfOk, OnOk};
 ghost use Rattle.vx_desk.specs.Told.{ChangesOnly, OutIsOpen};
 ghost use Rattle.vx_make.specs.Feed.{make_events};
-ghost use Rattle.vx_reading.specs.Failures.{Failures};
+ghost use Rattle.vx_desk.specs.Calls.{Failures};
 ghost use Rattle.vx_drivers.specs.Exits.{exit_calls};
 ghost use Rattle.vx_cli.specs.DrillRuns.{AnswersAreFew, CountsText, HasCounted, drill_line, kinds_line};
 ghost use Rattle.vx_cli.specs.DrillText.{Drills};

@@ -2,7 +2,7 @@
 
 ghost use Rattle.std.specs.Prelude.{◌≡◌, ◌<◌, ◌≤◌};
 ghost use Rattle.vx_desk.specs.Told.{ChangesOnly, OutIsOpen};
-ghost use Rattle.vx_reading.specs.Failures.{Failures};
+ghost use Rattle.vx_desk.specs.Calls.{Failures};
 ghost use Rattle.vx_drivers.specs.Exits.{exit_calls};
 ghost use Rattle.vx_cli.specs.Runs.{IsMakeExit, Makes};
 

@@ -2,7 +2,7 @@
 
 ghost use Rattle.std.specs.Prelude.{◌≡◌, ◌⊎◌, IfSome, IsNone, map, string_bytes};
 ghost use Rattle.vx_desk.specs.Told.{OnlyOutIsOpen};
-ghost use Rattle.vx_reading.specs.Failures.{Failures};
+ghost use Rattle.vx_desk.specs.Calls.{Failures};
 ghost use Rattle.vx_drivers.specs.Exits.{IsWithoutNoMemory, exit_calls};
 ghost use Rattle.vx_cli.specs.Headline.{Headline};
 ghost use Rattle.vx_cli.specs.LawfulExits.{CountsNoFailure, EndsLawfully};

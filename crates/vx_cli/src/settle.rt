@@ -2,7 +2,7 @@
 
 ghost use Rattle.std.specs.Prelude.{◌≡◌, ◌*◌, ◌^◌, ◌≤◌, ◌+ℤ◌, nat_abs, option_map, IsTrue};
 ghost use Rattle.vx_desk.specs.Told.{OnlyOutIsOpen};
-ghost use Rattle.vx_reading.specs.Failures.{Failures, IsStep};
+ghost use Rattle.vx_desk.specs.Calls.{Failures, IsStep};
 ghost use Rattle.vx_drivers.specs.Exits.{exit_calls};
 ghost use Rattle.vx_drivers.specs.PositionExits.{IsPositionExit};
 ghost use Rattle.vx_cli.specs.Runs.{IsSettleExit, OpensToSettle, SettlesFiles, SettlesOpen};

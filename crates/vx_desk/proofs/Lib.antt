@@ -5,3 +5,5 @@ pub mod NextLemmas
 pub mod UntoldLemmas
 pub mod MemoryLemmas
 pub mod ComingLemmas
+pub mod CallLemmas
+pub mod HeldLemmas

@@ -3,8 +3,10 @@ pub mod Slots
 pub mod Told
 pub mod Sending
 pub mod Lines
+pub mod Held
 pub mod Coming
 pub mod Refill
+pub mod Calls
 pub mod Failures
 pub mod Untold
 pub mod Devices

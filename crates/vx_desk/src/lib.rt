@@ -5,6 +5,7 @@
 
 mod device;
 mod failures;
+mod held;
 mod lines;
 mod memory;
 mod reader;

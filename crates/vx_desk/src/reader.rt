@@ -9,10 +9,12 @@ ghost use Rattle.vx_desk.specs.Told.{ChangesOnly, ChangesReads, Counts, Reads};
 ghost use Rattle.vx_desk.specs.Lines.{HasNoLf, AnswersNext, CountsReads, IsLineOrLong};
 ghost use Rattle.vx_desk.specs.Lines.{holds_line, new_reader, to_come, next_number};
 ghost use Rattle.vx_desk.specs.Coming.{TakesLine, coming};
+ghost use Rattle.vx_desk.specs.Held.{IsHeldText, passed};
 ghost use Rattle.vx_desk.specs.Refill.{Refills, IsFirstLf, Cuts, EndsInput};
 ghost use Rattle.vx_desk.specs.declared.lines.TheConstants.{LF};
 
 use crate::device::{Desk, Failed, Slot};
+use crate::held::count_whole;
 use crate::lines::{LF, Line, ReadFault};
 use memchr::memchr;
 use std::alloc::Global;
@@ -167,6 +169,28 @@ impl LineReader {
         let from = self.kept;
         let to = from + (line.end - line.start);
         &self.buffer[from..to]
+    }
+
+    /// The whole lines that wait, each with its LF, as one text: those that end within the first `most` bytes, up
+    /// to the first that has more bytes than a line may have. Where there is none it is empty.
+    pub fn held_text(&self, most: usize) -> &[u8]
+        ensures { IsHeldText self.now most result.now }
+    {
+        let end = self.end.min(self.start.saturating_add(most));
+        let length = count_whole(&self.buffer[self.start..end], self.limit);
+        &self.buffer[self.start..self.start + length]
+    }
+
+    /// Passes over so many bytes that wait, which are so many whole lines. They count as given, and there is no last
+    /// line.
+    pub fn pass(&mut self, size: usize, lines: usize)
+        requires within { size ≤ length self.old.waiting }
+        ensures { self.new ≡ passed self.old size lines }
+    {
+        self.start += size;
+        self.kept = self.start;
+        self.number = self.number.saturating_add(lines as u64);
+        self.last = None;
     }
 
     fn is_over(&self) -> bool

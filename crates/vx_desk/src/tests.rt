@@ -135,6 +135,27 @@ fn refuses_lines_past_the_limit(rt: HostRuntime) -> Result<(), Fail> {
 }
 
 #[test]
+fn holds_whole_lines_as_one_text(rt: HostRuntime) -> Result<(), Fail> {
+    let mut desk = MemDesk::new(rt.alloc(), 0, 100, &[])?;
+    desk.add_file("feed", b"ab\ncd\n\nefghij\nk\n")?;
+    desk.open(Slot::Feed, "feed")?;
+    let mut reader = LineReader::new(rt.alloc(), Slot::Feed, 5)?;
+    expect_line(&rt, &mut reader, &mut desk, 1, b"ab");
+    assert_eq!(rt; reader.held_text(100), b"cd\n\n".as_slice());
+    assert_eq!(rt; reader.held_text(3), b"cd\n".as_slice());
+    assert_eq!(rt; reader.held_text(2), b"".as_slice());
+    let size = reader.held_text(3).len();
+    reader.pass(size, 1);
+    expect_line(&rt, &mut reader, &mut desk, 3, b"");
+    assert_eq!(rt; reader.held_text(100), b"".as_slice());
+    assert_eq!(rt;
+        reader.next(&mut desk),
+        Err(ReadFault::LineTooLong { number: 4 })
+    );
+    Ok(())
+}
+
+#[test]
 fn sends_what_there_is_room_for(rt: HostRuntime) -> Result<(), Fail> {
     let mut desk = MemDesk::new(rt.alloc(), 10, 4, &[])?;
     assert_eq!(rt; send(&mut desk, Slot::Out, b"hello "), Ok(()));

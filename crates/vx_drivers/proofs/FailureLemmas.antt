@@ -3,7 +3,7 @@ use Rattle.std.proofs.Common.{◌≡◌, ◌≢◌, ap, subst, None}
 use Rattle.vx_desk.specs.Told.{ChangesOnly, ChangesReads, Told}
 use Rattle.vx_desk.specs.declared.device.Slot.{Slot}
 use Rattle.vx_desk.specs.declared.device.Slot.TheVariants.{Feed, Side, Out, Certs}
-use Rattle.vx_reading.specs.Failures.{IsStep, Kind, failures_of, open_call, read_call, write_call}
+use Rattle.vx_desk.specs.Calls.{IsStep, Kind, failures_of, open_call, read_call, write_call}
 
 not_feed : Feed ≢ Side
 not_feed e = cc

@@ -4,7 +4,7 @@ use Rattle.vx_desk.specs.declared.device.Slot.TheVariants as slot
 use Rattle.vx_settle.specs.declared.fault.PositionFault.TheVariants as position
 use Rattle.vx_reading.specs.declared.stop.FeedStop.{FeedStop}
 use Rattle.vx_reading.specs.declared.stop.FeedStop.TheVariants as stop
-use Rattle.vx_reading.specs.Failures.{Calls, open_call, read_call, write_call}
+use Rattle.vx_desk.specs.Calls.{Calls, open_call, read_call, write_call}
 use Rattle.vx_reading.specs.Stops.{IsCause}
 use Rattle.vx_drivers.specs.declared.exit.Exit.{Exit}
 use Rattle.vx_drivers.specs.declared.exit.Exit.TheVariants.{Done, SaidNo, Usage, BadFeed, OpenFault, ReadFault, WriteFault, NoMemory, BadPositions, BadCerts}

@@ -2,7 +2,7 @@
 //! names and an answer is sent; then the feed is read to its end, and the last line is sent.
 
 ghost use Rattle.std.specs.Prelude.{◌≡◌, ◌+◌, ◌≤◌, [], IsTrue, None};
-ghost use Rattle.vx_reading.specs.Failures.{IsStep};
+ghost use Rattle.vx_desk.specs.Calls.{IsStep};
 ghost use Rattle.vx_drivers.specs.CertificateSteps as steps;
 ghost use Rattle.vx_drivers.specs.CertificateSteps.{EndsCertificates};
 ghost use Rattle.vx_drivers.specs.CertificateExits.{IsCertificateExit};
@@ -60,7 +60,7 @@ impl<B: TakesEvents> CheckRun<B> {
     ghost use Rattle.std.specs.Prelude.{◌≡◌, ◌<◌, ◌+◌, ◌≤◌, [], IsTrue, OnOk, IfErr, IfOk};
     ghost use Rattle.vx_desk.specs.Told.{ChangesOnly};
     ghost use Rattle.vx_desk.specs.Coming.{IsReader};
-    ghost use Rattle.vx_reading.specs.Failures.{IsStep};
+    ghost use Rattle.vx_desk.specs.Calls.{IsStep};
     ghost use Rattle.vx_reading.specs.FeedReading.{StaysRead};
     ghost use Rattle.vx_drivers.specs.Answers.{answer_of, one_no, one_yes};
     ghost use Rattle.vx_drivers.specs.CertificateExits.{IsCertificateExit};

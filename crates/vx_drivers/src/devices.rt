@@ -3,7 +3,7 @@
 ghost use Rattle.std.specs.Prelude.{◌≡◌, IsTrue, OnErr, OnOk, false};
 ghost use Rattle.vx_desk.specs.Slots.{IsWriting};
 ghost use Rattle.vx_desk.specs.Told.{ChangesOnly, IsOpened, SameContent};
-ghost use Rattle.vx_reading.specs.Failures.{Failures, IsStep};
+ghost use Rattle.vx_desk.specs.Calls.{Failures, IsStep};
 ghost use Rattle.vx_drivers.specs.Exits.{calls_in};
 ghost use Rattle.vx_drivers.specs.Sending.{OpensSlot, SendsOr};
 

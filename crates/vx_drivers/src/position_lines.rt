@@ -51,7 +51,7 @@ impl PositionLines {
     ghost use Rattle.std.specs.Prelude.{◌≡◌, ◌+◌, ◌<◌, ◌≤◌, true, nat_lt, IsTrue, IfErr, IfOk, OnOk, Some, length, map, slice_get};
     ghost use Rattle.vx_fields.specs.Lines.{fields_of_line};
     ghost use Rattle.vx_desk.specs.Told.{ChangesOnly};
-    ghost use Rattle.vx_reading.specs.Failures.{IsStep};
+    ghost use Rattle.vx_desk.specs.Calls.{IsStep};
     ghost use Rattle.vx_drivers.specs.Exits.{calls_in, is_cut};
     ghost use Rattle.vx_drivers.specs.PositionExits.{IsPositionExit};
     ghost use Rattle.vx_drivers.specs.PositionLines.{AddsLastPosition, HasNextPosition, IsFreshLines, IsPositionLines, IsReadingPositions};

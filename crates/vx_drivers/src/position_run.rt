@@ -2,7 +2,7 @@
 //! settled before the device is asked for bytes behind it, and the last lines are sent behind the positions' end.
 
 ghost use Rattle.std.specs.Prelude.{◌≡◌, ◌==◌, ◌+◌, ◌≤◌, [], IfErr, IsTrue};
-ghost use Rattle.vx_reading.specs.Failures.{IsStep};
+ghost use Rattle.vx_desk.specs.Calls.{IsStep};
 ghost use Rattle.vx_reading.specs.FeedReading.{feed_told};
 ghost use Rattle.vx_drivers.specs.Exits.{calls_in, exit_calls};
 ghost use Rattle.vx_drivers.specs.Held.{held_by};
@@ -66,7 +66,7 @@ impl<S: SettlesPositions> PositionRun<S> {
     ghost use Rattle.std.specs.Prelude.{◌≡◌, ◌<◌, ◌+◌, ◌≤◌, ℕ, List, [], IsTrue, IfErr, IfOk, OnOk};
     ghost use Rattle.vx_drivers.specs.PositionLines.{IsPositionLines, IsSplit};
     ghost use Rattle.vx_desk.specs.Told.{ChangesOnly};
-    ghost use Rattle.vx_reading.specs.Failures.{IsStep};
+    ghost use Rattle.vx_desk.specs.Calls.{IsStep};
     ghost use Rattle.vx_drivers.specs.Exits.{calls_in, exit_calls};
     ghost use Rattle.vx_drivers.specs.PositionExits.{IsPositionExit};
     ghost use Rattle.vx_drivers.specs.PositionSteps.{EndsPositionRun, GoesOnePosition, GoesToLastPosition, HasItems};

@@ -2,7 +2,7 @@
 
 ghost use Rattle.std.specs.Prelude.{◌≡◌, ◌+◌, ◌<◌, ◌^◌, IsTrue, OnOk};
 ghost use Rattle.vx_desk.specs.Told.{ChangesOnly};
-ghost use Rattle.vx_reading.specs.Failures.{IsStep};
+ghost use Rattle.vx_desk.specs.Calls.{IsStep};
 ghost use Rattle.vx_drivers.specs.Exits.{calls_in};
 ghost use Rattle.vx_drivers.specs.TickRun.{counts_line};
 ghost use Rattle.vx_drivers.specs.TickSteps.{SendsBoth};

@@ -2,7 +2,7 @@
 //! line is sent behind the feed's end.
 
 ghost use Rattle.std.specs.Prelude.{◌≡◌, [], IsTrue};
-ghost use Rattle.vx_reading.specs.Failures.{IsStep};
+ghost use Rattle.vx_desk.specs.Calls.{IsStep};
 ghost use Rattle.vx_reading.specs.FeedReading.{feed_told};
 ghost use Rattle.vx_drivers.specs.Exits.{exit_calls};
 ghost use Rattle.vx_drivers.specs.TickExits.{IsTickExit};
@@ -33,7 +33,7 @@ pub(crate) struct TickRun<T: Drop> {
 
 impl<T: AnswersTicks> TickRun<T> {
     ghost use Rattle.std.specs.Prelude.{◌≡◌, ◌<◌, ◌+◌, ◌≤◌, ◌*◌, ◌^◌, [], IsTrue, IfErr, IfOk, OnOk};
-    ghost use Rattle.vx_reading.specs.Failures.{IsStep};
+    ghost use Rattle.vx_desk.specs.Calls.{IsStep};
     ghost use Rattle.vx_drivers.specs.Exits.{calls_in, exit_calls};
     ghost use Rattle.vx_drivers.specs.TickExits.{IsTickExit};
     ghost use Rattle.vx_drivers.specs.TickSteps.{AnswersLast, EndsTickRun, GoesOneEvent, GoesToFeedEnd, IsNewTicks};

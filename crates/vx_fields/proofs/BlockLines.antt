@@ -12,7 +12,8 @@ lines_in-line (b ∷ line) rest plain =
     let lf = not_equal b 10 (both_left _ _ plain) (lit< tt) in
     rw lf (ap (onto_first b) (lines_in-line line rest (both_right _ _ plain)))
 
-lines_in-text_of : (lines : List (List ℕ)) (rest : List ℕ) → list_all is_plain_line lines ≡ true → lines_in (text_of lines ++ rest) ≡ lines ++ lines_in rest
+-- plain lines before the rest of a text are its first
+pub lines_in-text_of : (lines : List (List ℕ)) (rest : List ℕ) → list_all is_plain_line lines ≡ true → lines_in (text_of lines ++ rest) ≡ lines ++ lines_in rest
 lines_in-text_of [] rest plain = refl
 lines_in-text_of (line ∷ lines) rest plain =
     let bytes : list_all is_plain line ≡ true = both_right _ _ (both_left _ _ plain) in

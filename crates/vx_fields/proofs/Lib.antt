@@ -2,3 +2,4 @@
 pub mod CsvLines
 pub mod CsvReader
 pub mod BlockLines
+pub mod TextLemmas

@@ -33,3 +33,12 @@ why_unsplit line = if length line == 0 then Some Empty else (if list_all is_plai
 abbrev pub lines_in : List ℕ → List (List ℕ)
 lines_in [] = []
 lines_in (byte ∷ text) = if byte == line_feed then [] ∷ lines_in text else onto_first byte (lines_in text)
+
+-- the leading lines of which each can be split
+abbrev pub plain_head : List (List ℕ) → List (List ℕ)
+plain_head [] = []
+plain_head (line ∷ lines) = if is_plain_line line then line ∷ plain_head lines else []
+
+-- a byte may stand in lines that can be split: a plain one, or an LF where none stands just before it
+abbrev pub may_follow : Bool → ℕ → Bool
+may_follow after_lf byte = if byte == line_feed then not after_lf else is_plain byte

@@ -22,6 +22,27 @@ fn append_line(text: &mut Vec<u8>, line: &[u8]) -> Result<(), NoMemory>
     Ok(())
 }
 
+// Appends a text, or nothing of it.
+fn append_text(text: &mut Vec<u8>, more: &[u8]) -> Result<(), NoMemory>
+    ensures ok { OnOk result (text.new.items ≡ text.old.items ++ more.now) }
+    ensures err { OnErr result (text.new.items ≡ text.old.items) }
+{
+    text.extend_from_slice(more)?;
+    Ok(())
+}
+
+// How many lines a text of whole lines has.
+fn count_lines(text: &[u8]) -> usize
+    requires whole { text.now ≡ text_of (lines_in text.now) }
+    ensures { result ≡ length (lines_in text.now) }
+{
+    let mut count = 0;
+    for byte in text {
+        count += usize::from(*byte == LF);
+    }
+    count
+}
+
 /// Lines that are to be split together.
 #[derive(Drop)]
 pub struct LineBlock {
@@ -83,6 +104,18 @@ impl LineBlock {
     {
         append_line(&mut self.text, line)?;
         self.lines += 1;
+        Ok(())
+    }
+
+    /// Adds the lines of a text, each with its LF, all at once. After a refusal the block is unchanged.
+    pub fn push_text(&mut self, text: &[u8]) -> Result<(), NoMemory>
+        requires whole { text.now ≡ text_of (lines_in text.now) }
+        requires plain { list_all is_plain_line (lines_in text.now) ≡ true }
+        ensures ok { OnOk result (self.new ≡ self.old ++ lines_in text.now) }
+        ensures err { OnErr result (self.new ≡ self.old) }
+    {
+        append_text(&mut self.text, text)?;
+        self.lines += count_lines(text);
         Ok(())
     }
 

@@ -9,7 +9,7 @@ mod line;
 mod table;
 
 pub use block::LineBlock;
-pub use line::{Unsplit, is_plain_line, why_unsplit};
+pub use line::{Unsplit, is_plain_line, plain_lines, why_unsplit};
 pub use table::{FieldTable, Fields};
 
 #[cfg(test)]

@@ -1,6 +1,6 @@
 //! Lines that are split at their commas, and lines that are not plain.
 
-use crate::{FieldTable, LineBlock, Unsplit, is_plain_line, why_unsplit};
+use crate::{FieldTable, LineBlock, Unsplit, is_plain_line, plain_lines, why_unsplit};
 use std::test::Fail;
 
 #[test]
@@ -22,6 +22,10 @@ fn lines_are_split_at_their_commas(rt: HostRuntime) -> Result<(), Fail> {
     block.clear();
     table.fill(&block)?;
     assert!(rt; table.is_empty() && block.is_empty());
+    block.push_text(b"a,b\nc\n")?;
+    table.fill(&block)?;
+    assert_eq!(rt; table.len(), 2);
+    assert_eq!(rt; table.line(1).get(0), Some(b"c".as_slice()));
     Ok(())
 }
 
@@ -33,4 +37,6 @@ fn other_lines_are_not_plain(rt: HostRuntime) {
     assert_eq!(rt; why_unsplit(b""), Some(Unsplit::Empty));
     assert_eq!(rt; why_unsplit(b"a\tb"), Some(Unsplit::Byte));
     assert!(rt; why_unsplit(b"a,b").is_none());
+    assert_eq!(rt; plain_lines(b"a\nb\n\nc\n"), b"a\nb\n".as_slice());
+    assert_eq!(rt; plain_lines(b"a\nb\tc\n"), b"a\n".as_slice());
 }

@@ -1,6 +1,5 @@
 -- Lemmas on the lines that are read ahead and on the events taken from them.
 mod AheadLemmas
-pub mod FailureLemmas
 pub mod FaultLemmas
 pub mod FeedLemmas
 mod GivenLemmas

@@ -1,5 +1,4 @@
 -- How a feed is read: lines ahead, events one by one, and where the reading stops.
-pub mod Failures
 pub mod Stops
 pub mod Takes
 pub mod LinesAhead

@@ -7,7 +7,7 @@ use Rattle.vx_reading.specs.declared.stop.FeedCause.{FeedCause}
 use Rattle.vx_reading.specs.declared.stop.FeedCause.TheVariants as cause
 use Rattle.vx_reading.specs.declared.stop.FeedStop.{FeedStop}
 use Rattle.vx_reading.specs.declared.stop.FeedStop.TheVariants.{BadLine, Device, NoMemory}
-use Rattle.vx_reading.specs.Failures.{Calls, read_call}
+use Rattle.vx_desk.specs.Calls.{Calls, read_call}
 
 -- want of memory is no cause
 abbrev pub IsCause : FeedCause → Type 0

@@ -69,7 +69,7 @@ impl LinesAhead {
     ghost use Rattle.std.specs.Prelude.{◌≡◌, ◌+◌, ◌<◌, ◌≤◌, true, IsTrue, IfOk, IfErr, OnOk, Some, length, map};
     ghost use Rattle.vx_fields.specs.Lines.{fields_of_line};
     ghost use Rattle.vx_desk.specs.Told.{ChangesOnly};
-    ghost use Rattle.vx_reading.specs.Failures.{IsStep};
+    ghost use Rattle.vx_desk.specs.Calls.{IsStep};
     ghost use Rattle.vx_reading.specs.Stops.{failed_in};
     ghost use Rattle.vx_reading.specs.LinesAhead.{AddsLast, HasNext, IsAhead, IsFaulted, IsFreshAhead, IsNoFault, IsNoLine};
     ghost use Rattle.vx_reading.specs.LinesAhead.{OnFault, SaysSame, TakesAhead, ahead_says, block_says, is_in_hand};

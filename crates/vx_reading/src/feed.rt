@@ -40,7 +40,7 @@ impl<T: TakesEvents> FeedReader<T> {
     ghost use Rattle.vx_desk.specs.declared.device.Slot.{Slot};
     ghost use Rattle.vx_feed.specs.declared.events.Event.{Event};
     ghost use Rattle.vx_feed.specs.Order.{IsLawfulNext};
-    ghost use Rattle.vx_reading.specs.Failures.{IsStep};
+    ghost use Rattle.vx_desk.specs.Calls.{IsStep};
     ghost use Rattle.vx_reading.specs.Stops.{failed_in};
     ghost use Rattle.vx_reading.specs.LinesAhead.{IsNoFault, ReadsOn};
     ghost use Rattle.vx_reading.specs.FeedReading.{EndsAt, HasTakenUp, IsAt, IsReading, IsTakerOf, TakesAll, TakesOne};

@@ -1,5 +1,5 @@
 use Rattle.std.proofs.Common.{None}
-use Rattle.vx_reading.proofs.FailureLemmas.{failures_after}
+use Rattle.vx_desk.proofs.CallLemmas.{failures_after}
 use Rattle.vx_drivers.specs.Exits.{exit_calls}
 use Rattle.vx_cli.proofs.CheckLemmas.{certs_not_opened, feed_not_opened, files_checked}
 use Rattle.vx_cli.proofs.check.check_files.Goals as goal

@@ -2,7 +2,7 @@ use Rattle.std.proofs.Common.{◌∙◌, ap, [], None}
 use Rattle.std.specs.Option.{option_map}
 use Rattle.vx_desk.specs.declared.device.Slot.TheVariants.{Feed, Out, Certs}
 use Rattle.vx_desk.specs.Told.{Told}
-use Rattle.vx_reading.proofs.FailureLemmas.{failures_after}
+use Rattle.vx_desk.proofs.CallLemmas.{failures_after}
 use Rattle.vx_drivers.specs.Exits.{exit_calls, is_cut}
 use Rattle.vx_drivers.proofs.ExitLemmas.{certs_not_feed, certs_not_out, feed_not_certs, out_not_certs, out_not_feed}
 use Rattle.vx_cli.proofs.ReplayLemmas.{files_replayed, nothing_sent}

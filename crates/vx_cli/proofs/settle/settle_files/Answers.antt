@@ -3,7 +3,7 @@ use Rattle.std.specs.Prelude.{IsTrue}
 use Rattle.std.specs.Option.{option_map}
 use Rattle.vx_desk.specs.declared.device.Slot.TheVariants.{Feed, Side, Out, Certs}
 use Rattle.vx_desk.specs.Told.{Told}
-use Rattle.vx_reading.proofs.FailureLemmas.{failures_after}
+use Rattle.vx_desk.proofs.CallLemmas.{failures_after}
 use Rattle.vx_drivers.specs.Exits.{exit_calls, is_cut}
 use Rattle.vx_drivers.proofs.ExitLemmas.{certs_not_feed, certs_not_out, certs_not_side, feed_not_certs, feed_not_side, out_not_certs, out_not_feed, out_not_side, side_not_certs}
 use Rattle.vx_cli.proofs.SettleLemmas.{files_settled, nothing_settled}

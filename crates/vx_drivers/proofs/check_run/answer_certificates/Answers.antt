@@ -1,4 +1,4 @@
-use Rattle.vx_reading.proofs.FailureLemmas.{step_after}
+use Rattle.vx_desk.proofs.CallLemmas.{step_after}
 use Rattle.vx_desk.specs.declared.device.Slot.TheVariants.{Out}
 use Rattle.vx_drivers.specs.CertificateSteps.{certs_told}
 use Rattle.vx_drivers.specs.Exits.{exit_calls}

@@ -1,7 +1,7 @@
 use Rattle.std.proofs.Common.{◌∙◌, sym, subst, ap, refl, []}
 use Rattle.vx_desk.specs.declared.device.Slot.TheVariants.{Feed, Out, Certs}
 use Rattle.vx_desk.specs.Told.{Told}
-use Rattle.vx_reading.specs.Failures.{IsStep}
+use Rattle.vx_desk.specs.Calls.{IsStep}
 use Rattle.vx_reading.specs.FeedReading.{feed_told}
 use Rattle.vx_reading.specs.WhatWasRead.{EventsRead}
 use Rattle.vx_reading.proofs.FeedLemmas.{events_read}

@@ -1,7 +1,7 @@
 use Rattle.std.proofs.Common.{sym, ap, refl, None}
 use Rattle.vx_desk.specs.Told.{Told}
 use Rattle.vx_reading.specs.FeedReading.{feed_told}
-use Rattle.vx_reading.proofs.FailureLemmas.{step_after}
+use Rattle.vx_desk.proofs.CallLemmas.{step_after}
 use Rattle.vx_drivers.specs.declared.exit.Exit.TheVariants.{NoMemory}
 use Rattle.vx_drivers.specs.Exits.{exit_calls}
 use Rattle.vx_drivers.specs.Held.{held_by}

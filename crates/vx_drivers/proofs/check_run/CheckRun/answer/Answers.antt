@@ -7,7 +7,7 @@ use Rattle.vx_drivers.specs.Answers.{answer_of}
 use Rattle.vx_drivers.specs.CertificateExits.{IsCertificateExit}
 use Rattle.vx_drivers.specs.CertificateSteps.{ComesOf, EndsBefore, read_as}
 use Rattle.vx_drivers.specs.Exits.{exit_calls}
-use Rattle.vx_reading.specs.Failures.{IsStep}
+use Rattle.vx_desk.specs.Calls.{IsStep}
 use Rattle.vx_drivers.proofs.ExitLemmas.{stop_named}
 use Rattle.vx_drivers.proofs.CertificateLemmas.{feed_stops, judged, not_read, out_of_memory, out_of_order, stop_exit}
 use Rattle.vx_drivers.proofs.check_run.CheckRun.answer.Goals.{in-Ok, in-Err-push_text}

@@ -1,5 +1,5 @@
 use Rattle.std.proofs.Common.{subst, Bool, Ok}
-use Rattle.vx_reading.proofs.FailureLemmas.{step_after}
+use Rattle.vx_desk.proofs.CallLemmas.{step_after}
 use Rattle.vx_drivers.specs.CertificateSteps.{GoesOn, allowed, answered_lines}
 use Rattle.vx_drivers.specs.Exits.{exit_calls}
 use Rattle.vx_drivers.proofs.check_run.CheckRun.answer_all.Goals as goal

@@ -4,7 +4,7 @@ use Rattle.vx_desk.specs.Coming.{IsReader}
 use Rattle.vx_desk.specs.Told.{Told}
 use Rattle.vx_feed.specs.Feed.{Reading}
 use Rattle.vx_lines.specs.TextLines.{TextLines}
-use Rattle.vx_reading.specs.Failures.{IsStep}
+use Rattle.vx_desk.specs.Calls.{IsStep}
 use Rattle.vx_drivers.specs.declared.limits.TheConstants.{CERT_LINES_MAX, CERT_LINE_LEN_MAX}
 use Rattle.vx_drivers.specs.Held.{Held}
 use Rattle.vx_drivers.specs.CertificateSteps.{IsUnderWay, MayGoOn, allowed, answered_lines}

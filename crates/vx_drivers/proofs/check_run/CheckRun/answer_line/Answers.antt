@@ -2,7 +2,7 @@ use Rattle.std.proofs.Common.{◌≡◌, ◌∙◌, sym, subst, ap, ◌+◌, ari
 use Rattle.vx_desk.specs.declared.device.Slot.TheVariants.{Feed, Side, Out}
 use Rattle.vx_reading.specs.FeedReading.{IsAt}
 use Rattle.vx_reading.specs.WhatWasRead.{EventsRead}
-use Rattle.vx_reading.proofs.FailureLemmas.{step_after}
+use Rattle.vx_desk.proofs.CallLemmas.{step_after}
 use Rattle.vx_reading.proofs.FeedLemmas.{at_kept}
 use Rattle.vx_drivers.specs.Answers.{answer_of, answer_text, count_no, count_yes}
 use Rattle.vx_drivers.specs.CertificateSteps.{next_text}

@@ -5,7 +5,7 @@ use Rattle.vx_desk.specs.Coming.{coming}
 use Rattle.vx_drivers.specs.declared.exit.LineCause.TheVariants.{TooLong, NoEol, TooMany}
 use Rattle.vx_drivers.specs.declared.limits.TheConstants.{CERT_LINES_MAX}
 use Rattle.vx_drivers.specs.CertificateSteps.{EndsAtLine, SendsAnswer, allowed, answered_lines}
-use Rattle.vx_reading.proofs.FailureLemmas.{step_after}
+use Rattle.vx_desk.proofs.CallLemmas.{step_after}
 use Rattle.vx_reading.proofs.FeedLemmas.{at_kept}
 use Rattle.vx_drivers.specs.Exits.{exit_calls}
 use Rattle.vx_drivers.proofs.FailureLemmas.{line_read}

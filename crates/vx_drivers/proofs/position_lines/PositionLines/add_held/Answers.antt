@@ -1,4 +1,4 @@
-use Rattle.vx_reading.proofs.FailureLemmas.{step_after}
+use Rattle.vx_desk.proofs.CallLemmas.{step_after}
 use Rattle.vx_drivers.specs.Exits.{exit_calls}
 use Rattle.vx_drivers.proofs.GivenLemmas.{stops_fewer}
 use Rattle.vx_desk.specs.declared.device.Slot.TheVariants.{Side}

@@ -1,7 +1,7 @@
 use Rattle.std.proofs.Common.{◌≡◌, ℕ, ◌<◌, List, length, Option, None, IsTrue}
 use Rattle.vx_desk.specs.declared.device.Slot.TheVariants.{Side}
 use Rattle.vx_desk.specs.Told.{ChangesOnly}
-use Rattle.vx_reading.specs.Failures.{IsStep}
+use Rattle.vx_desk.specs.Calls.{IsStep}
 use Rattle.vx_drivers.specs.declared.position_lines.Rest.TheVariants.{More}
 use Rattle.vx_drivers.specs.PositionLines.{HasReadLines, IsReadingPositions, block_coming}
 use Rattle.vx_drivers.proofs.position_lines.PositionLines.add_held.Given as goal

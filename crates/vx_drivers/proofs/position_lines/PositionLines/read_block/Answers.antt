@@ -1,6 +1,6 @@
 use Rattle.std.proofs.Common.{◌∙◌, refl}
 use Rattle.vx_desk.specs.declared.device.Slot.TheVariants.{Side}
-use Rattle.vx_reading.proofs.FailureLemmas.{step_after}
+use Rattle.vx_desk.proofs.CallLemmas.{step_after}
 use Rattle.vx_drivers.specs.Exits.{calls_in}
 use Rattle.vx_drivers.proofs.GivenLemmas.{block_begins, stops_none}
 use Rattle.vx_drivers.proofs.PositionLinesLemmas.{block_none, ok_trans}

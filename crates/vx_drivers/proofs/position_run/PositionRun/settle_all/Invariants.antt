@@ -4,7 +4,7 @@ use Rattle.vx_desk.specs.declared.device.Slot.TheVariants.{Side, Out}
 use Rattle.vx_desk.specs.Told.{Told}
 use Rattle.vx_feed.specs.Feed.{Reading}
 use Rattle.vx_lines.specs.TextLines.{TextLines}
-use Rattle.vx_reading.specs.Failures.{IsStep}
+use Rattle.vx_desk.specs.Calls.{IsStep}
 use Rattle.vx_drivers.specs.declared.limits.TheConstants.{POSITION_LINES_MAX}
 use Rattle.vx_drivers.specs.Held.{Held}
 use Rattle.vx_drivers.specs.PositionLines.{IsPositionLines}

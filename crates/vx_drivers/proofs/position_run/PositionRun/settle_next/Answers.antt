@@ -6,7 +6,7 @@ use Rattle.vx_drivers.specs.declared.limits.TheConstants.{POSITION_LINES_MAX}
 use Rattle.vx_drivers.specs.declared.position_lines.Rest.{Rest}
 use Rattle.vx_drivers.specs.PositionLines.{bad_behind as cause_behind}
 use Rattle.vx_drivers.specs.PositionSteps.{allowed_positions}
-use Rattle.vx_reading.proofs.FailureLemmas.{step_after}
+use Rattle.vx_desk.proofs.CallLemmas.{step_after}
 use Rattle.vx_drivers.specs.Exits.{exit_calls}
 use Rattle.vx_drivers.proofs.ExitLemmas.{certs_not_out, certs_not_side, feed_not_out, feed_not_side, out_not_side, side_not_out}
 use Rattle.vx_drivers.proofs.GivenLemmas.{given_read, line_given}

@@ -4,7 +4,7 @@ use Rattle.vx_desk.specs.declared.device.Slot.TheVariants.{Feed, Side, Out, Cert
 use Rattle.vx_desk.specs.Told.{Told}
 use Rattle.vx_feed.specs.Feed.{Reading}
 use Rattle.vx_feed.specs.declared.limits.TheConstants.{LINES_MAX}
-use Rattle.vx_reading.specs.Failures.{IsStep}
+use Rattle.vx_desk.specs.Calls.{IsStep}
 use Rattle.vx_drivers.specs.TickSteps.{HasAnswered, MayGoOnTicks, events_read}
 use Rattle.vx_drivers.proofs.tick_run.TickRun.answer_all.Given as goal
 

@@ -2,7 +2,7 @@ use Rattle.std.proofs.Common.{◌∙◌, sym, subst, ap, refl, [], ◌∷◌, �
 use Rattle.vx_desk.specs.declared.device.Slot.TheVariants.{Out, Certs}
 use Rattle.vx_feed.specs.declared.limits.TheConstants.{LINES_MAX}
 use Rattle.vx_reading.specs.declared.feed.FeedReader.{FeedReader}
-use Rattle.vx_reading.proofs.FailureLemmas.{step_after}
+use Rattle.vx_desk.proofs.CallLemmas.{step_after}
 use Rattle.vx_reading.proofs.FeedLemmas.{found_is}
 use Rattle.vx_drivers.specs.Exits.{exit_calls}
 use Rattle.vx_drivers.specs.TickExits.{IsTickExit}

@@ -1,7 +1,7 @@
 use Rattle.std.proofs.Common.{◌∙◌, sym, subst, refl, ◌+◌, Option, Ok}
 use Rattle.std.proofs.lemmas.Result.{err_from_is_err_and}
 use Rattle.vx_feed.specs.declared.events.Event.{Event}
-use Rattle.vx_reading.specs.Failures.{IsStep}
+use Rattle.vx_desk.specs.Calls.{IsStep}
 use Rattle.vx_reading.specs.LinesAhead.{GivesEvent, TakesNext, ahead_says}
 use Rattle.vx_reading.proofs.FeedLemmas.{end_read, fault_read, more_read, read_kept, read_more, stays_read, stop_read, taken_no_fault, taken_with}
 use Rattle.vx_reading.proofs.feed.FeedReader.read_next.Goals as goal

@@ -6,7 +6,7 @@ use Rattle.vx_feed.specs.Feed.{Reading}
 use Rattle.vx_reading.specs.Stops.{stop_calls}
 use Rattle.vx_reading.specs.FeedReading.{IsAt}
 use Rattle.vx_reading.specs.LinesAhead.{still_to_come}
-use Rattle.vx_reading.proofs.FailureLemmas.{step_after}
+use Rattle.vx_desk.proofs.CallLemmas.{step_after}
 use Rattle.vx_reading.proofs.GivenLemmas.{comes_twice}
 use Rattle.vx_reading.proofs.FeedLemmas.{stays_read, found_is, reads_on, read_all, read_so_many}
 use Rattle.vx_reading.proofs.feed.FeedReader.read_to.Goals as goal

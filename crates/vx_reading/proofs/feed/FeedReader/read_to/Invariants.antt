@@ -3,7 +3,7 @@ use Rattle.vx_desk.specs.declared.device.Slot.TheVariants.{Feed}
 use Rattle.vx_desk.specs.Told.{ChangesOnly}
 use Rattle.vx_feed.specs.declared.events.Event.{Event}
 use Rattle.vx_feed.specs.Feed.{Reading}
-use Rattle.vx_reading.specs.Failures.{IsStep}
+use Rattle.vx_desk.specs.Calls.{IsStep}
 use Rattle.vx_reading.specs.LinesAhead.{ComesOn, still_to_come}
 use Rattle.vx_reading.specs.FeedReading.{IsAt, IsReading}
 use Rattle.vx_reading.proofs.feed.FeedReader.read_to.Given as goal

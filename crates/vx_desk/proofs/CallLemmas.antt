@@ -2,7 +2,7 @@
 use Rattle.std.proofs.Common.{◌≡◌, ◌∙◌, sym, subst, refl, Option, Some, None}
 use Rattle.vx_desk.specs.Told.{Rose, Told}
 use Rattle.vx_desk.specs.declared.device.Slot.{Slot}
-use Rattle.vx_reading.specs.Failures.{Calls, Failures, IsStep, NoFailure, failures}
+use Rattle.vx_desk.specs.Calls.{Calls, Failures, IsStep, NoFailure, failures}
 
 -- nothing was done to a desk
 pub step_none : (told : Slot → Told) → IsStep None told told
