@@ -11,7 +11,7 @@ use Rattle.vx_drivers.specs.declared.exit.Exit.{Exit}
 use Rattle.vx_drivers.specs.declared.exit.Exit.TheVariants.{Done, SaidNo, Usage, BadFeed, OpenFault, ReadFault, WriteFault, NoMemory, BadPositions, BadCerts}
 use Rattle.vx_drivers.specs.Along.{Along}
 use Rattle.vx_drivers.specs.Answers.{Answer, said_yes, said_no, answers_text, end_text}
-use Rattle.vx_drivers.specs.CertificateRun.{Answers, AnswersCertificate, AnswersSaid, CutsRun, Ends, Runs, RunsIf, Stand, StandsBefore, last_line, start}
+use Rattle.vx_drivers.specs.CertificateRun.{Answers, AnswersCertificate, AnswersSaid, CutsRun, EndsWithRest, Runs, RunsIf, Stand, StandsBefore, last_line, start}
 use Rattle.vx_drivers.specs.Exits.{is_cut}
 use Rattle.vx_drivers.specs.Sending.{Text}
 use Rattle.vx_cli.specs.CheckRuns.{IsVerdict, ReadsOrSays, check_rules}
@@ -129,7 +129,7 @@ module _ (feed : Reading) where
         last_is = last_of h.stand exit;
         begins = ([], sym h.text_is ∙ sym (append-nil sent));
         done = λ done.
-            let ends : Ends check_rules feed h.stand h.rest Done = subst (λ (e : Exit). Ends check_rules feed h.stand h.rest e) done h.ends in (
+            let ends : EndsWithRest check_rules feed h.stand h.rest Done = subst (λ (e : Exit). EndsWithRest check_rules feed h.stand h.rest e) done h.ends in (
               run_whole certs h.stand h.rest h.before (ap (λ (t : TextLines). t.lines) ends.0.no_line),
               ends.1,
               h.text_is ∙ ap (λ (e : Exit). answers_text h.stand.answers ++ last_line h.stand e) done,

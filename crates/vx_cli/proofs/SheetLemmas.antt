@@ -24,10 +24,11 @@ use Rattle.vx_settle.specs.Amount.{IsAmount, total_of}
 use Rattle.vx_fields.specs.Lines.{field}
 use Rattle.vx_settle.specs.declared.position.Contract.{Contract}
 use Rattle.vx_settle.specs.Form.{contract_of_text, last_of_text, position_of_fields, position_of_line, position_of_parts, position_unless, quantity_of_text}
+use Rattle.vx_blocks.specs.SplitLines.{IsSplit}
 use Rattle.vx_drivers.specs.PositionExits.{IsLineFault}
-use Rattle.vx_drivers.specs.PositionLines.{IsSplit}
 use Rattle.vx_drivers.specs.PositionSteps.{AddsUnless, OpensSheet}
 use Rattle.vx_drivers.specs.Sending.{Text}
+use Rattle.vx_drivers.proofs.PositionLinesLemmas.{none_unsplit}
 use Rattle.vx_cli.specs.declared.settle.Settlement.{Settlement}
 use Rattle.vx_cli.specs.ReadBack.{OpeningCertificateIsRead}
 use Rattle.vx_cli.specs.SettleRuns.{AnsweredOpening, SettlesTo, settle_rules}
@@ -127,7 +128,7 @@ fields_named false said why named is = subst IsLineFault (same_err is) tt
 line_read : (line : List ℕ) (fields : List (List ℕ)) (result : Result Position PositionFault) → IsSplit line fields → result ≡ position_of_fields fields
     → result ≡ position_of_line line
 line_read line fields result split is =
-    is ∙ ap position_of_fields split.fields_are ∙ sym (ap (λ (o : Option PositionFault). position_unless o line) split.can_be)
+    is ∙ ap position_of_fields split.fields_are ∙ sym (ap (λ (o : Option PositionFault). position_unless o line) (none_unsplit line fields split))
 
 -- ---- the opening
 

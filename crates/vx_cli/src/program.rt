@@ -28,7 +28,8 @@ pub fn run<D: Desk>(alloc: Global, words: &[String], desk: &mut D) -> Exit
     requires closed { OnlyOutIsOpen (D.told desk.old) }
     // Usage comes exactly by the words, save that want of memory may come in its place.
     ensures usage { result ≡ Exit.Usage → IsNone (command_of (map string_bytes words.now)) }
-    ensures no_form { IsNone (command_of (map string_bytes words.now)) → (result ≡ Exit.Usage) ⊎ (result ≡ Exit.NoMemory) }
+    ensures no_form { IsNone (command_of (map string_bytes words.now))
+        → (result ≡ Exit.Usage) ⊎ (result ≡ Exit.NoMemory) }
     ensures untouched { result ≡ Exit.Usage → desk.new ≡ desk.old }
     // No exit of another command comes.
     ensures exits { IfSome (command_of (map string_bytes words.now)) (IsExitOf result) }

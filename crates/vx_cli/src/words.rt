@@ -14,9 +14,8 @@ use vx_num::{NoMemory, write_decimal};
 pub(crate) fn push_clock(words: &mut Vec<u8>, time: u16) -> Result<(), NoMemory>
     ensures { OnOk result (words.new.items ≡ words.old.items ++ clock_text time) }
 {
-    words
-        .extend_from_slice(&write_clock(time))
-        .map_err(|_| NoMemory)
+    words.extend_from_slice(&write_clock(time))?;
+    Ok(())
 }
 
 /// Appends what a certificate states, in points: the level of kind `k0`, or a figure.

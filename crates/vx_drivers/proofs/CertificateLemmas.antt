@@ -21,7 +21,7 @@ use Rattle.vx_drivers.specs.declared.exit.Exit.TheVariants.{NoMemory, ReadFault}
 use Rattle.vx_drivers.specs.Answers.{Answer, answers_from, answer_text, answers_text, count_no, count_yes, said_no, said_yes, one_no, one_yes}
 use Rattle.vx_drivers.specs.CertificateExits.{IsCertificateExit}
 use Rattle.vx_drivers.specs.CertificateRun.{Answers, AnswersCertificate, Rules, Stand, Stops, answered}
-use Rattle.vx_drivers.specs.CertificateSteps.{AnswersLine, Between, EndsBefore, IsCutElsewhere, next_text}
+use Rattle.vx_drivers.specs.CertificateSteps.{AnswersLine, StandsBetweenLines, EndsBefore, IsCutElsewhere, next_text}
 use Rattle.vx_drivers.specs.Exits.{exit_of_stop}
 use Rattle.vx_drivers.specs.Sending.{Sent, SendsOr, Text}
 
@@ -138,7 +138,7 @@ pub answer_sent : {C B : Type 0} (rules : Rules C) (StandsFor : B → List Event
     (stand : Stand) (line : List ℕ) (answer : Answer) (reached : ℕ) (run : CheckRun B)
     (before between after : Slot → Told) (result : Result Unit Exit)
     → IfSome feed (λ f. Answers rules f stand line (answered stand answer reached))
-    → Between StandsFor held feed (answered stand answer reached) run after → between Out ≡ before Out
+    → StandsBetweenLines StandsFor held feed (answered stand answer reached) run after → between Out ≡ before Out
     → SendsOr Out (next_text stand answer) (between Out) (after Out) result
     → AnswersLine rules StandsFor held feed stand line run before after result
 answer_sent rules StandsFor held feed stand line answer reached run before between after (Ok u) answers at same sends =

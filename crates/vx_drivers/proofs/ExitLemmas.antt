@@ -38,6 +38,13 @@ memory_not_read is = absurd (let no : ⊥ = cc in no)
 pub write_not_read : {P : Type 0} (slot : Slot) (exit : Exit) → exit ≡ WriteFault slot → exit ≡ ReadFault Feed → P
 write_not_read slot exit is read = absurd (let no : ⊥ = let same : WriteFault slot ≡ ReadFault Feed = sym is ∙ read in cc in no)
 
+-- exits that are none of a failed read of the slot Side
+pub memory_not_side : {P : Type 0} → NoMemory ≡ ReadFault Side → P
+memory_not_side is = absurd (let no : ⊥ = cc in no)
+
+pub write_not_side : {P : Type 0} (slot : Slot) (exit : Exit) → exit ≡ WriteFault slot → exit ≡ ReadFault Side → P
+write_not_side slot exit is read = absurd (let no : ⊥ = let same : WriteFault slot ≡ ReadFault Side = sym is ∙ read in cc in no)
+
 pub out_not_feed : Out ≢ Feed
 out_not_feed e = cc
 

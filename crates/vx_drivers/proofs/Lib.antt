@@ -4,10 +4,9 @@ pub mod CauseLemmas
 mod CertificateLemmas
 pub mod ExitLemmas
 mod FailureLemmas
-pub mod GivenLemmas
 pub mod OneRun
 pub mod PositionLawLemmas
-mod PositionLinesLemmas
+pub mod PositionLinesLemmas
 pub mod PositionRunIsThere
 pub mod PositionRunLemmas
 pub mod RunIsThere

@@ -14,7 +14,7 @@ use Rattle.vx_drivers.specs.declared.exit.LineCause.{LineCause}
 use Rattle.vx_drivers.specs.declared.exit.LineCause.TheVariants as line
 use Rattle.vx_drivers.specs.Along.{Along}
 use Rattle.vx_drivers.specs.Answers.{Answer, answers_text, count_no}
-use Rattle.vx_drivers.specs.CertificateRun.{AllAnswered, Answers, AnswersCertificate, AnswersSaid, Ends, Rules, Runs, Stand, Stops, StopsAt, answered, ending_for, last_line, start}
+use Rattle.vx_drivers.specs.CertificateRun.{AllAnswered, Answers, AnswersCertificate, AnswersSaid, EndsWithRest, Rules, Runs, Stand, Stops, StopsAt, answered, ending_for, last_line, start}
 use Rattle.vx_drivers.specs.CertificateSteps.{said_exit}
 use Rattle.vx_drivers.specs.Sending.{Text}
 use Rattle.vx_drivers.proofs.CauseLemmas.{cause_one}
@@ -108,7 +108,7 @@ module _ {C : Type 0} (rules : Rules C)
   abbrev EndsAs : Stand → TextLines → Exit → Type 0
   EndsAs stand rest exit = IsThrough stand rest exit ⊎ (IsAtFeedLine stand rest exit ⊎ IsAtCertificateLine stand rest exit)
 
-  ends_as : (stand : Stand) (rest : TextLines) (exit : Exit) → Ends rules feed stand rest exit → EndsAs stand rest exit
+  ends_as : (stand : Stand) (rest : TextLines) (exit : Exit) → EndsWithRest rules feed stand rest exit → EndsAs stand rest exit
   ends_as stand rest Done (all, none) = inl (all, ap said_exit (sym none))
   ends_as stand rest (SaidNo count) (all, is, some) = inl (all, said_is count some ∙ ap said_exit is)
   ends_as stand rest Usage h = elim h [ ]
@@ -168,13 +168,13 @@ module _ {C : Type 0} (rules : Rules C)
   ends_no_earlier first stand next text texts rest exit same lines step (inr (inr at)) = not_empty text texts rest.lines lines (ap (λ (t : TextLines). t.lines) at.rest_is)
 
   same_end : (first a b : Stand) (xs ys : List (List ℕ)) (more others : TextLines) (exit other : Exit) → Along (Answers rules feed) first xs a → Along (Answers rules feed) first ys b
-      → xs ++ more.lines ≡ ys ++ others.lines → more.ending ≡ others.ending → Ends rules feed a more exit → Ends rules feed b others other → (a ≡ b) × (exit ≡ other)
+      → xs ++ more.lines ≡ ys ++ others.lines → more.ending ≡ others.ending → EndsWithRest rules feed a more exit → EndsWithRest rules feed b others other → (a ≡ b) × (exit ≡ other)
   same_end first a b [] [] more others exit other h k lines ending ends end =
       let stands : a ≡ b = h ∙ sym k in
       let rests : more ≡ others = same_lines more others lines ending in (
         stands,
         ends_one b others exit other
-            (ends_as b others exit (subst (λ (s : Stand). Ends rules feed s others exit) stands (subst (λ (t : TextLines). Ends rules feed a t exit) rests ends)))
+            (ends_as b others exit (subst (λ (s : Stand). EndsWithRest rules feed s others exit) stands (subst (λ (t : TextLines). EndsWithRest rules feed a t exit) rests ends)))
             (ends_as b others other end),
       )
   same_end first a b [] (y ∷ ys) more others exit other h (next, step, k) lines ending ends end =

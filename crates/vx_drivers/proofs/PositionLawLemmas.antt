@@ -5,7 +5,6 @@ use Rattle.vx_feed.specs.declared.events.Event.{Event}
 use Rattle.vx_feed.specs.Feed.{BadLine}
 use Rattle.vx_settle.specs.declared.fault.PositionFault.{PositionFault}
 use Rattle.vx_reading.specs.declared.stop.FeedCause.{FeedCause}
-use Rattle.vx_reading.specs.Stops.{bad_cause}
 use Rattle.vx_drivers.specs.declared.exit.Exit.{Exit}
 use Rattle.vx_drivers.specs.declared.exit.Exit.TheVariants.{Done, SaidNo, Usage, BadFeed, OpenFault, ReadFault, WriteFault, NoMemory, BadPositions, BadCerts}
 use Rattle.vx_drivers.specs.declared.exit.PositionCause.{PositionCause}

@@ -3,46 +3,51 @@ use Rattle.std.proofs.Common.{◌≡◌, ◌≢◌, ◌==◌, ◌∙◌, sym, ap
 use Rattle.std.specs.Option.{option_map}
 use Rattle.std.proofs.lemmas.List.{append-nil, append_assoc, take-append-drop}
 use Rattle.std.proofs.lemmas.Bool.Decides.{nat_tests}
+use Rattle.std.proofs.lemmas.Option.{slice_get-get_or}
 use Rattle.vx_lines.specs.TextLines.{Ending, TextLines, at_end, at_most, ended, line_then, lines_of, lines_then, no_eol, too_long, too_many}
 use Rattle.vx_lines.proofs.LineLemmas.{lines_then-push}
 use Rattle.vx_desk.specs.declared.device.Slot.{Slot}
 use Rattle.vx_desk.specs.declared.device.Slot.TheVariants.{Feed, Side, Out, Certs}
 use Rattle.vx_desk.specs.Coming.{coming}
-use Rattle.vx_desk.specs.Lines.{ReaderState}
 use Rattle.vx_desk.specs.Told.{Told}
 use Rattle.vx_feed.specs.declared.events.Event.{Event}
 use Rattle.vx_feed.specs.Feed.{Reading, stopped_at}
 use Rattle.vx_settle.specs.declared.fault.PositionFault.{PositionFault}
-use Rattle.vx_settle.specs.Form.{unsplit_fault}
+use Rattle.vx_settle.specs.Form.{fault_of_unsplit, unsplit_fault}
+use Rattle.vx_blocks.specs.declared.split_lines.SplitLines.{SplitLines}
+use Rattle.vx_blocks.specs.declared.split_lines.Rest.{Rest}
+use Rattle.vx_blocks.specs.declared.split_lines.Rest.TheVariants.{More, End, Unsplit, TooLong, NoEol}
+use Rattle.vx_blocks.specs.SplitLines.{IsFresh, IsRestAfter, behind, has_line, lines_coming}
+use Rattle.vx_blocks.specs.Given.{HasGiven, TakesLine, WereRead}
+use Rattle.vx_blocks.proofs.ComingLemmas.{none_at_hand}
+use Rattle.vx_blocks.proofs.FreshLemmas.{fresh_coming}
+use Rattle.vx_blocks.proofs.GivenLemmas.{given_kept}
+use Rattle.vx_blocks.proofs.TakeLemmas.{takes_next}
 use Rattle.vx_reading.specs.declared.feed.FeedReader.{FeedReader}
 use Rattle.vx_reading.specs.declared.stop.FeedStop.{FeedStop}
 use Rattle.vx_reading.specs.declared.stop.FeedStop.TheVariants as stop
 use Rattle.vx_reading.specs.FeedReading.{ReadsAll, Says, all_good, feed_told}
-use Rattle.vx_reading.specs.WhatWasRead.{EventsRead, WereRead}
+use Rattle.vx_reading.specs.WhatWasRead.{EventsRead}
 use Rattle.vx_reading.specs.Stops.{bad_cause}
 use Rattle.vx_drivers.specs.declared.exit.Exit.{Exit}
 use Rattle.vx_drivers.specs.declared.exit.Exit.TheVariants.{Done, BadFeed, BadPositions, ReadFault, WriteFault, NoMemory as WantsMemory}
 use Rattle.vx_drivers.specs.declared.exit.PositionCause.{PositionCause}
 use Rattle.vx_drivers.specs.declared.exit.PositionCause.TheVariants as cause
 use Rattle.vx_drivers.specs.declared.limits.TheConstants.{POSITION_LINES_MAX, POSITION_LINE_LEN_MAX}
-use Rattle.vx_drivers.specs.declared.position_lines.PositionLines.{PositionLines}
-use Rattle.vx_drivers.specs.declared.position_lines.Rest.{Rest}
-use Rattle.vx_drivers.specs.declared.position_lines.Rest.TheVariants.{More, End, Unsplit, TooLong, NoEol}
 use Rattle.vx_drivers.specs.declared.position_run.PositionRun.{PositionRun}
 use Rattle.vx_drivers.specs.Along.{Along}
 use Rattle.vx_drivers.specs.Exits.{exit_of_stop, is_cut}
 use Rattle.vx_drivers.specs.Held.{Held, held_by}
 use Rattle.vx_drivers.specs.PositionExits.{IsPositionExit}
-use Rattle.vx_drivers.specs.PositionLines.{HasGivenLines, IsFreshLines, IsPositionLines, IsRestAfter, StopsReading, bad_behind as cause_behind, behind, lines_coming}
+use Rattle.vx_drivers.specs.PositionLines.{IsPositionLines, StopsReading, bad_behind as cause_behind}
 use Rattle.vx_drivers.specs.PositionRun.{GivesPositionParts, NextIsBad, PositionRules, RunsPositionsBy, RunsPositionsIf, Settles, items_from, positions_of, settled_text}
 use Rattle.vx_drivers.specs.PositionSteps.{AddsItem, HasEndedPositions, HasOpened, IsSettling, IsThroughPositions, OpensSheet, SendsItem, SettlesLine, SettlesLinesRead, allowed_positions, positions_told}
 use Rattle.vx_drivers.specs.Sending.{Begins, CutsOff, Sent, SendsOr, Text}
 use Rattle.vx_drivers.specs.TickSteps.{CutsBoth}
 use Rattle.vx_drivers.proofs.AlongLemmas.{along_more}
-use Rattle.vx_drivers.proofs.ExitLemmas.{bad_not_cut, done_not_cut, write_is_fault}
-use Rattle.vx_drivers.proofs.GivenLemmas.{given_kept, given_read, memory_not_side, none_given, none_were_read, write_not_side}
-use Rattle.vx_drivers.proofs.PositionLinesLemmas.{fresh_coming, next_first, none_left}
-use Rattle.vx_drivers.proofs.RunLemmas.{allowed_ended, allowed_line, allowed_none, nothing_waits, twice}
+use Rattle.vx_drivers.proofs.ExitLemmas.{bad_not_cut, done_not_cut, memory_not_side, write_is_fault, write_not_side}
+use Rattle.vx_drivers.proofs.PositionLinesLemmas.{given_read, next_first, none_given, none_were_read, side_kept}
+use Rattle.vx_drivers.proofs.RunLemmas.{allowed_ended, allowed_line, allowed_none, twice}
 use Rattle.vx_drivers.proofs.SendingLemmas.{sent_more, sent_none, sent_still}
 
 -- ---- lines that are told, or some where none are
@@ -344,11 +349,11 @@ module _ {A I : Type 0} (rules : PositionRules A I) where
     }
 
     -- no line of positions was read yet
-    pub starts : (held : Held) (feed : Option Reading) (positions : Option TextLines) (before : Slot → Told) (run : PositionRun S) (ahead : PositionLines)
-        (now : Slot → Told)
-        (rest : Option TextLines) → HasOpened rules StandsAt held.feed feed before run now → rest ≡ positions → HasGivenLines [] held.side ahead now
+    pub starts : (held : Held) (feed : Option Reading) (positions : Option TextLines) (before : Slot → Told) (run : PositionRun S) (ahead : SplitLines)
+        (now : Slot → Told) (rest : Option TextLines) → HasOpened rules StandsAt held.feed feed before run now → rest ≡ positions
+        → ahead.lines.slot ≡ Side → HasGiven [] held.side ahead now
         → IsSettling rules StandsAt held feed positions before run ahead now rest
-    starts held feed positions before run ahead now rest opened same given = record {
+    starts held feed positions before run ahead now rest opened same slot given = record {
       events = opened.events;
       feed_is = opened.feed_is;
       events_read = opened.events_read;
@@ -357,6 +362,7 @@ module _ {A I : Type 0} (rules : PositionRules A I) where
       items = [];
       lines = [];
       are_first = first_told positions ∙ ap (option_map (lines_then [])) (sym same);
+      slot = slot;
       lines_read = given;
       steps = refl;
       sheet = opened.sheet;
@@ -373,12 +379,18 @@ module _ {A I : Type 0} (rules : PositionRules A I) where
           → EventsRead events held.feed (now Feed)
       still_read events between now read same = subst (λ (t : Told). EventsRead events held.feed t) (sym same) read
 
+      -- and so were the lines that were given
+      still_given : (lines : List (List ℕ)) (ahead : SplitLines) (between now : Slot → Told) → ahead.lines.slot ≡ Side → now Side ≡ between Side
+          → HasGiven lines held.side ahead between → WereRead lines held.side (now Side)
+      still_given lines ahead between now slot same given =
+          given_read lines held.side ahead now slot (given_kept lines held.side ahead between now (side_kept ahead between now slot same) given)
+
       -- the output and the file of certificates did not change
-      pub way_kept : (run : PositionRun S) (old ahead : PositionLines) (between now : Slot → Told) (rest : Option TextLines)
+      pub way_kept : (run : PositionRun S) (old ahead : SplitLines) (between now : Slot → Told) (rest : Option TextLines)
           (way : IsSettling rules StandsAt held feed positions before run old between rest) → now Feed ≡ between Feed → now Out ≡ between Out
-          → now Certs ≡ between Certs
-          → HasGivenLines way.lines held.side ahead now → IsSettling rules StandsAt held feed positions before run ahead now rest
-      way_kept run old ahead between now rest way feed_same out_same certs_same given = record {
+          → now Certs ≡ between Certs → ahead.lines.slot ≡ Side
+          → HasGiven way.lines held.side ahead now → IsSettling rules StandsAt held feed positions before run ahead now rest
+      way_kept run old ahead between now rest way feed_same out_same certs_same slot given = record {
         events = way.events;
         feed_is = way.feed_is;
         events_read = still_read way.events between now way.events_read feed_same;
@@ -387,6 +399,7 @@ module _ {A I : Type 0} (rules : PositionRules A I) where
         items = way.items;
         lines = way.lines;
         are_first = way.are_first;
+        slot = slot;
         lines_read = given;
         steps = way.steps;
         sheet = way.sheet;
@@ -396,12 +409,12 @@ module _ {A I : Type 0} (rules : PositionRules A I) where
       }
 
       -- the next line is settled
-      pub settled_on : (old run : PositionRun S) (from ahead : PositionLines) (between now : Slot → Told) (rest new : Option TextLines) (text : List ℕ)
+      pub settled_on : (old run : PositionRun S) (from ahead : SplitLines) (between now : Slot → Told) (rest new : Option TextLines) (text : List ℕ)
           (way : IsSettling rules StandsAt held feed positions before old from between rest) → rest ≡ option_map (line_then text) new → now Feed ≡ between Feed
-          → now Certs ≡ between Certs → HasGivenLines (way.lines ++ text ∷ []) held.side ahead now
+          → now Certs ≡ between Certs → ahead.lines.slot ≡ Side → HasGiven (way.lines ++ text ∷ []) held.side ahead now
           → run.count ≡ old.count + 1 → SendsItem rules StandsAt way.answer way.items text run (between Out) (now Out)
           → IsSettling rules StandsAt held feed positions before run ahead now new
-      settled_on old run from ahead between now rest new text way is feed_same certs_same given more sends = record {
+      settled_on old run from ahead between now rest new text way is feed_same certs_same slot given more sends = record {
         events = way.events;
         feed_is = way.feed_is;
         events_read = still_read way.events between now way.events_read feed_same;
@@ -410,6 +423,7 @@ module _ {A I : Type 0} (rules : PositionRules A I) where
         items = way.items ++ sends.item ∷ [];
         lines = way.lines ++ text ∷ [];
         are_first = first_more positions rest new way.lines text way.are_first is;
+        slot = slot;
         lines_read = given;
         steps = along_more (Settles rules way.answer) [] way.lines text way.items (way.items ++ sends.item ∷ []) way.steps (sends.item, sends.comes, refl);
         sheet = sends.stands;
@@ -430,7 +444,7 @@ module _ {A I : Type 0} (rules : PositionRules A I) where
       -- ---- ends
 
       -- nothing more was sent, and the run is cut off
-      pub cut_short : (run : PositionRun S) (ahead : PositionLines) (between now : Slot → Told) (rest : Option TextLines) (exit : Exit)
+      pub cut_short : (run : PositionRun S) (ahead : SplitLines) (between now : Slot → Told) (rest : Option TextLines) (exit : Exit)
           (way : IsSettling rules StandsAt held feed positions before run ahead between rest) → now Feed ≡ between Feed → now Out ≡ between Out
           → now Certs ≡ between Certs
           → StopsReading way.lines held.side (now Side) exit → is_cut exit ≡ true → HasEndedPositions rules held feed positions before now exit
@@ -453,19 +467,19 @@ module _ {A I : Type 0} (rules : PositionRules A I) where
           }
 
       -- memory is wanting where nothing more was read
-      pub memory_short : (run : PositionRun S) (ahead : PositionLines) (between now : Slot → Told) (rest : Option TextLines) (exit : Exit)
+      pub memory_short : (run : PositionRun S) (ahead : SplitLines) (between now : Slot → Told) (rest : Option TextLines) (exit : Exit)
           → IsSettling rules StandsAt held feed positions before run ahead between rest → now Feed ≡ between Feed → now Side ≡ between Side
           → now Out ≡ between Out
           → now Certs ≡ between Certs → exit ≡ WantsMemory → HasEndedPositions rules held feed positions before now exit
       memory_short run ahead between now rest exit way feed_same side_same out_same certs_same is =
           cut_short run ahead between now rest exit way feed_same out_same certs_same
           (record {
-            were_read = given_read way.lines held.side ahead now (given_kept way.lines held.side ahead between now side_same way.lines_read);
+            were_read = still_given way.lines ahead between now way.slot side_same way.lines_read;
             cut = λ failed. memory_not_side (sym is ∙ failed);
           }) (ap is_cut is)
 
       -- the next line is bad
-      bad_end : (run : PositionRun S) (ahead : PositionLines) (between now : Slot → Told) (rest : Option TextLines) (left : TextLines) (number : ℕ)
+      bad_end : (run : PositionRun S) (ahead : SplitLines) (between now : Slot → Told) (rest : Option TextLines) (left : TextLines) (number : ℕ)
           (why : PositionCause)
           (way : IsSettling rules StandsAt held feed positions before run ahead between rest) → now Out ≡ between Out → now Certs ≡ between Certs
           → number ≡ length way.items + 1 → IfSome rest (λ r. r ≡ left) → NextIsBad rules way.answer left why
@@ -495,7 +509,7 @@ module _ {A I : Type 0} (rules : PositionRules A I) where
           }
 
       -- it is no line, or one too many
-      pub line_bad : (run : PositionRun S) (ahead : PositionLines) (between now : Slot → Told) (rest : Option TextLines) (left : TextLines) (exit : Exit)
+      pub line_bad : (run : PositionRun S) (ahead : SplitLines) (between now : Slot → Told) (rest : Option TextLines) (left : TextLines) (exit : Exit)
           (why : PositionCause)
           → IsSettling rules StandsAt held feed positions before run ahead between rest → now Out ≡ between Out → now Certs ≡ between Certs
           → exit ≡ BadPositions (run.count + 1) why → IfSome rest (λ r. r ≡ left) → ((answer : A) → NextIsBad rules answer left why)
@@ -505,7 +519,7 @@ module _ {A I : Type 0} (rules : PositionRules A I) where
           (bad_end run ahead between now rest left (run.count + 1) why way out_same certs_same (ap (λ n. n + 1) way.count) is (bad way.answer))
 
       -- the run ended at a line
-      pub line_ended : (old run : PositionRun S) (ahead : PositionLines) (between now : Slot → Told) (rest new : Option TextLines) (text : List ℕ) (exit : Exit)
+      pub line_ended : (old run : PositionRun S) (ahead : SplitLines) (between now : Slot → Told) (rest new : Option TextLines) (text : List ℕ) (exit : Exit)
           (way : IsSettling rules StandsAt held feed positions before old ahead between rest) → rest ≡ option_map (line_then text) new → now Feed ≡ between Feed
           → now Side ≡ between Side → now Certs ≡ between Certs → WereRead (way.lines ++ text ∷ []) held.side (now Side)
           → SettlesLine rules StandsAt way.answer way.items text run (between Out) (now Out) (Err exit)
@@ -611,7 +625,7 @@ module _ {A I : Type 0} (rules : PositionRules A I) where
             certs_sent = sent_still (rules.certificate way.answer) (before Certs) (between Certs) (now Certs) way.certs certs_same;
             cut = λ off. inr (part_settled held feed positions now Out exit way.events way.answer way.items way.lines last (first ++ take cut.part.count last)
                 (rules.certificate way.answer) cut.exit_is way.feed_is (still_read way.events between now way.events_read feed_same) way.is_opening way.steps
-                (given_read way.lines held.side ahead now (given_kept way.lines held.side ahead between now side_same way.lines_read))
+                (still_given way.lines ahead between now way.slot side_same way.lines_read)
                 (inr (said_first positions rest way.lines (ended at_end) way.are_first none, refl))
                 (drop cut.part.count last, sym (append_part first last cut.part.count)) ([], sym (append-nil (rules.certificate way.answer))));
           }
@@ -619,25 +633,25 @@ module _ {A I : Type 0} (rules : PositionRules A I) where
 -- ---- as many lines as there may be
 
 -- lines that are read ahead are to come as they were
-pub allowed_kept : (count : ℕ) (old new : PositionLines) (before after : Slot → Told) → lines_coming new after ≡ lines_coming old before
+pub allowed_kept : (count : ℕ) (old new : SplitLines) (before after : Slot → Told) → lines_coming new after ≡ lines_coming old before
     → allowed_positions count old before ≡ allowed_positions count new after
 allowed_kept count old new before after same = ap (option_map (at_most (POSITION_LINES_MAX - count))) (sym same)
 
 -- the next line, of those that there may be
-pub allowed_step : (count more : ℕ) (old new : PositionLines) (before after : Slot → Told)
-    → IsPositionLines old → old.taken < length old.table → new ≡ record old { taken = old.taken + 1 } → after Side ≡ before Side → more ≡ count + 1
-    → count < POSITION_LINES_MAX
-    → allowed_positions count old before ≡ option_map (line_then (get_or old.block old.taken [])) (allowed_positions more new after)
-allowed_step count more old new before after is below next same size few =
-    allowed_line (POSITION_LINES_MAX - count) (POSITION_LINES_MAX - more) (get_or old.block old.taken []) (lines_coming old before) (lines_coming new after)
-    (next_first old new before after is below next same) (omega (arith, size, few))
+pub allowed_step : (count more : ℕ) (fields : List (List ℕ)) (old new : SplitLines) (before after : Slot → Told) (takes : TakesLine fields old new)
+    → new.lines.slot ≡ Side → after Side ≡ before Side → more ≡ count + 1 → count < POSITION_LINES_MAX
+    → allowed_positions count old before ≡ option_map (line_then takes.line) (allowed_positions more new after)
+allowed_step count more fields old new before after takes slot same size few =
+    allowed_line (POSITION_LINES_MAX - count) (POSITION_LINES_MAX - more) takes.line (lines_coming old before) (lines_coming new after)
+    (next_first old new fields before after takes slot same) (omega (arith, size, few))
 
 -- or there are as many already
-pub allowed_full : (count : ℕ) (old : PositionLines) (told : Slot → Told) → IsPositionLines old → old.taken < length old.table → count ≡ POSITION_LINES_MAX
-    → IfSome (allowed_positions count old told) (λ r. r ≡ ended too_many)
-allowed_full count old told is below full =
-    allowed_none (POSITION_LINES_MAX - count) (get_or old.block old.taken []) (lines_coming old told) (lines_coming (record old { taken = old.taken + 1 }) told)
-    (next_first old (record old { taken = old.taken + 1 }) told told is below refl refl) (omega (arith, full))
+pub allowed_full : (count : ℕ) (p : SplitLines) (told : Slot → Told) → IsPositionLines p → p.taken < length p.table → count ≡ POSITION_LINES_MAX
+    → IfSome (allowed_positions count p told) (λ r. r ≡ ended too_many)
+allowed_full count p told is below full =
+    let takes = takes_next (get_or p.table p.taken []) p is.are_ahead (slice_get-get_or p.table p.taken [] below) in
+    allowed_none (POSITION_LINES_MAX - count) takes.line (lines_coming p told) (lines_coming (record p { taken = p.taken + 1 }) told) (takes.coming told)
+    (omega (arith, full))
 
 -- what is bad behind the lines that were split is the next of the lines to come, or stands in its place
 pub record BadNext {A I : Type 0} (rules : PositionRules A I) (rest : Option TextLines) (why : PositionCause) : Type 0 where
@@ -667,14 +681,14 @@ bad_rest : {A I : Type 0} (rules : PositionRules A I) (count : ℕ) (last : List
     → BadNext rules (option_map (at_most (POSITION_LINES_MAX - count)) (option_map (behind last rest) o)) why
 bad_rest rules count last More is_full why o faults is full few bad = absurd (let no : ⊥ = cc in no)
 bad_rest rules count last End is_full why o faults is full few bad = absurd (let no : ⊥ = cc in no)
-bad_rest rules count last (Unsplit f) true why o faults is full few bad =
+bad_rest rules count last (Unsplit unsplit) true why o faults is full few bad =
     let all : count ≡ POSITION_LINES_MAX = grind (arith, nat_tests) in
     record {
       left = ended too_many;
       left_is = allowed_none (POSITION_LINES_MAX - count) last (option_map (line_then last) o) o refl (omega (arith, all));
       bad = λ answer. subst (λ (w : PositionCause). NextIsBad rules answer (ended too_many) w) (same_some bad) refl;
     }
-bad_rest rules count last (Unsplit f) false why o faults is full few bad =
+bad_rest rules count last (Unsplit unsplit) false why o faults is full few bad =
     let less : count < POSITION_LINES_MAX = grind (arith, nat_tests) in
     let rest = option_map (at_most (POSITION_LINES_MAX - (count + 1))) o in
     let after = some_left rest in
@@ -683,27 +697,27 @@ bad_rest rules count last (Unsplit f) false why o faults is full few bad =
       left_is = next_left (option_map (at_most (POSITION_LINES_MAX - count)) (option_map (line_then last) o)) rest last after
           (allowed_line (POSITION_LINES_MAX - count) (POSITION_LINES_MAX - (count + 1)) last (option_map (line_then last) o) o refl (omega (arith, less)));
       bad = λ answer. subst (λ (w : PositionCause). NextIsBad rules answer (line_then last after.left) w) (same_some bad)
-          (last, after.left, refl, faults answer last f is.0);
+          (last, after.left, refl, faults answer last (fault_of_unsplit unsplit) (ap (option_map fault_of_unsplit) is));
     }
 bad_rest rules count last TooLong is_full why o faults is full few bad =
     place_left rules (POSITION_LINES_MAX - count) too_long cause.TooLong why o (λ answer. refl) bad
 bad_rest rules count last NoEol is_full why o faults is full few bad =
     place_left rules (POSITION_LINES_MAX - count) no_eol cause.NoEol why o (λ answer. refl) bad
 
-pub bad_next : {A I : Type 0} (rules : PositionRules A I) (count : ℕ) (p : PositionLines) (told : Slot → Told) (why : PositionCause)
-    → FaultsUnsplit rules → IsPositionLines p → length p.table ≤ p.taken → count ≤ POSITION_LINES_MAX
+pub bad_next : {A I : Type 0} (rules : PositionRules A I) (count : ℕ) (p : SplitLines) (told : Slot → Told) (why : PositionCause)
+    → FaultsUnsplit rules → IsPositionLines p → has_line p ≡ false → count ≤ POSITION_LINES_MAX
     → cause_behind p.rest (count == POSITION_LINES_MAX) ≡ Some why
     → BadNext rules (allowed_positions count p told) why
-bad_next rules count p told why faults is taken few bad =
-    subst (λ (o : Option TextLines). BadNext rules (option_map (at_most (POSITION_LINES_MAX - count)) o) why) (sym (none_left p told is taken))
-    (bad_rest rules count p.lines.last_bytes p.rest (count == POSITION_LINES_MAX) why (coming p.lines told) faults is.reading.rest refl few bad)
+bad_next rules count p told why faults is none few bad =
+    subst (λ (o : Option TextLines). BadNext rules (option_map (at_most (POSITION_LINES_MAX - count)) o) why) (sym (none_at_hand p told is.are_ahead none))
+    (bad_rest rules count p.lines.last_bytes p.rest (count == POSITION_LINES_MAX) why (coming p.lines told) faults is.are_ahead.reading.rest refl few bad)
 
 -- at the end nothing is to come
-pub none_next : (count : ℕ) (p : PositionLines) (told : Slot → Told) → IsPositionLines p → length p.table ≤ p.taken → p.rest ≡ End
+pub none_next : (count : ℕ) (p : SplitLines) (told : Slot → Told) → IsPositionLines p → has_line p ≡ false → p.rest ≡ End
     → IfSome (allowed_positions count p told) (λ lines. lines ≡ ended at_end)
-none_next count p told is taken end =
+none_next count p told is none end =
     allowed_ended (POSITION_LINES_MAX - count) at_end (lines_coming p told)
-    (subst (λ (o : Option TextLines). IfSome o (λ r. r ≡ ended at_end)) (sym (none_left p told is taken
+    (subst (λ (o : Option TextLines). IfSome o (λ r. r ≡ ended at_end)) (sym (none_at_hand p told is.are_ahead none
     ∙ ap (λ (r : Rest). option_map (behind p.lines.last_bytes r) (coming p.lines told)) end))
     (always (coming p.lines told)))
   where
@@ -712,12 +726,11 @@ none_next count p told is taken end =
     always (Some text) = refl
 
 -- the lines that are to come to a new reader are all of them
-pub allowed_all : (count : ℕ) (p : PositionLines) (told : Slot → Told) → count ≡ 0 → IsFreshLines p → allowed_positions count p told ≡ positions_told told
+pub allowed_all : (count : ℕ) (p : SplitLines) (told : Slot → Told) → count ≡ 0 → IsFresh Side POSITION_LINE_LEN_MAX p
+    → allowed_positions count p told ≡ positions_told told
 allowed_all count p told zero is =
     ap (λ (n : ℕ). allowed_positions n p told) zero
-    ∙ ap (λ (o : Option TextLines). option_map (at_most POSITION_LINES_MAX) o) (fresh_coming p told is)
-    ∙ ap (λ (r : ReaderState). option_map (at_most POSITION_LINES_MAX) (coming r told)) is.lines
-    ∙ ap (λ left. option_map (at_most POSITION_LINES_MAX) (option_map (lines_of POSITION_LINE_LEN_MAX) left)) (nothing_waits (told Side).left)
+    ∙ ap (option_map (at_most POSITION_LINES_MAX)) (fresh_coming Side POSITION_LINE_LEN_MAX p told is)
     ∙ sym (twice (lines_of POSITION_LINE_LEN_MAX) (at_most POSITION_LINES_MAX) (told Side).left)
 
 -- the exit of a feed that is not read to its end is one of such a run
@@ -730,10 +743,10 @@ stop_exit StandsFor held feed reader told stop.NoMemory reads = tt
 
 -- the positions of a run whose opening was answered are all to come
 pub starts_open : {A I S : Type 0} (rules : PositionRules A I) (StandsAt : S → A → List I → Type 0) (before now : Slot → Told) (run : PositionRun S)
-    (p : PositionLines)
-    → HasOpened rules StandsAt (held_by before).feed (feed_told before) before run now → now Side ≡ before Side → IsFreshLines p
+    (p : SplitLines)
+    → HasOpened rules StandsAt (held_by before).feed (feed_told before) before run now → now Side ≡ before Side → IsFresh Side POSITION_LINE_LEN_MAX p
     → IsSettling rules StandsAt (held_by before) (feed_told before) (positions_told before) before run p now (allowed_positions run.count p now)
 starts_open rules StandsAt before now run p opened same is =
     starts rules StandsAt (held_by before) (feed_told before) (positions_told before) before run p now (allowed_positions run.count p now) opened
     (allowed_all run.count p now opened.count is ∙ ap (λ (t : Told). option_map positions_of t.left) same)
-    (none_given (held_by before).side p now is (ap (λ (t : Told). t.left) (sym same)))
+    (ap (λ reader. reader.slot) is.lines) (none_given (held_by before).side p now is (ap (λ (t : Told). t.left) (sym same)))

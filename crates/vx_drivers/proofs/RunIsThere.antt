@@ -13,7 +13,7 @@ use Rattle.vx_drivers.specs.declared.exit.LineCause.TheVariants as line
 use Rattle.vx_drivers.specs.Along.{Along}
 use Rattle.vx_drivers.specs.Answers.{answers_text, count_no, said_no}
 use Rattle.vx_drivers.specs.CertificateLaws.{AnswersEach, RunIsThere}
-use Rattle.vx_drivers.specs.CertificateRun.{Answers, AnswersCertificate, Ends, Rules, Stand, Stops, answered, last_line, start}
+use Rattle.vx_drivers.specs.CertificateRun.{Answers, AnswersCertificate, EndsWithRest, Rules, Stand, Stops, answered, last_line, start}
 use Rattle.vx_drivers.specs.Sending.{Text}
 use Rattle.vx_drivers.proofs.CauseLemmas.{cause_of}
 
@@ -64,17 +64,17 @@ module _ {C : Type 0} (rules : Rules C) (feed : Reading) (each : AnswersEach rul
 
   -- ---- behind the last line
 
-  all_said : (stand : Stand) → feed.bad ≡ None → (count : ℕ) → count ≡ count_no stand.answers → (exit : Exit) × Ends rules feed stand (ended at_end) exit
+  all_said : (stand : Stand) → feed.bad ≡ None → (count : ℕ) → count ≡ count_no stand.answers → (exit : Exit) × EndsWithRest rules feed stand (ended at_end) exit
   all_said stand good zero is = (Done, (record { no_line = refl; no_bad = good }, sym is))
   all_said stand good (suc count) is = (SaidNo (suc count), (record { no_line = refl; no_bad = good }, is, omega arith))
 
-  feed_end : (stand : Stand) (bad : Option BadLine) → feed.bad ≡ bad → (exit : Exit) × Ends rules feed stand (ended at_end) exit
+  feed_end : (stand : Stand) (bad : Option BadLine) → feed.bad ≡ bad → (exit : Exit) × EndsWithRest rules feed stand (ended at_end) exit
   feed_end stand None good = all_said stand good (count_no stand.answers) refl
   feed_end stand (Some bad) is =
       let has = subst HasBad (sym is) (bad_there bad) in
       (BadFeed has.number has.why, (has.is, refl))
 
-  last_end : (stand : Stand) (ending : Ending) → (exit : Exit) × Ends rules feed stand (ended ending) exit
+  last_end : (stand : Stand) (ending : Ending) → (exit : Exit) × EndsWithRest rules feed stand (ended ending) exit
   last_end stand at_end = feed_end stand feed.bad refl
   last_end stand too_long = (BadCerts (length stand.answers + 1) line.TooLong, (refl, refl))
   last_end stand no_eol = (BadCerts (length stand.answers + 1) line.NoEol, (refl, refl))
@@ -90,7 +90,7 @@ module _ {C : Type 0} (rules : Rules C) (feed : Reading) (each : AnswersEach rul
     are_first : certs ≡ lines_then firsts rest
     steps : Along (Answers rules feed) stand firsts last
     exit : Exit
-    ends : Ends rules feed last rest exit
+    ends : EndsWithRest rules feed last rest exit
 
   runs_at : (stand : Stand) (text : List ℕ) (texts : List (List ℕ)) (ending : Ending) → Next stand text
       → ((new : Stand) → RunsOn new (record { lines = texts; ending = ending }))

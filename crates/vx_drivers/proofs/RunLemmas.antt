@@ -29,7 +29,7 @@ use Rattle.vx_reading.specs.declared.feed.FeedReader.{FeedReader}
 use Rattle.vx_reading.specs.FeedReading.{IsReadTo, ReadsAll, TakesAll, all_good, feed_told, is_met}
 use Rattle.vx_reading.specs.Stops.{bad_cause}
 use Rattle.vx_reading.specs.WhatWasRead.{EventsRead, IsCutAfter, WereRead}
-use Rattle.vx_reading.proofs.FaultLemmas.{part_waits}
+use Rattle.vx_blocks.proofs.FaultLemmas.{part_waits}
 use Rattle.vx_reading.proofs.FeedLemmas.{at_kept, events_read, read_so_many}
 use Rattle.vx_drivers.specs.declared.check_run.CheckRun.{CheckRun}
 use Rattle.vx_drivers.specs.declared.exit.Exit.{Exit}
@@ -40,7 +40,8 @@ use Rattle.vx_drivers.specs.Along.{Along}
 use Rattle.vx_drivers.specs.Answers.{Answer, answers_text, count_no, count_yes, end_line, end_text}
 use Rattle.vx_drivers.specs.CertificateExits.{IsCertificateExit}
 use Rattle.vx_drivers.specs.CertificateRun.{AllAnswered, Answers, GivesAnswers, GivesPart, Rules, RunsBy, RunsIf, Stand, StandsBefore, Stops, StopsAt, answered, ending_for, start}
-use Rattle.vx_drivers.specs.CertificateSteps.{AnswersLinesRead, Between, CutsAnswer, EndsAtLine, EndsForFeed, HasEnded, IfBoth, IsCutElsewhere, IsNew, IsThrough, IsUnderWay, MayEnd, SendsAnswer, allowed, answered_lines, certs_told, next_text, said_exit}
+use Rattle.vx_drivers.specs.CertificateSteps.{AnswersLinesRead, CutsAnswer, EndsAtLine, EndsForFeed, HasEnded, IfBoth, IsCutElsewhere, IsNew, IsThrough, IsUnderWay, MayEnd}
+use Rattle.vx_drivers.specs.CertificateSteps.{SendsAnswer, StandsBetweenLines, allowed, answered_lines, certs_told, next_text, said_exit}
 use Rattle.vx_drivers.specs.Exits.{exit_of_stop, is_cut, is_write_fault}
 use Rattle.vx_drivers.specs.Held.{Held, held_by}
 use Rattle.vx_drivers.specs.Sending.{CutsOff, Sent, Text}
@@ -568,8 +569,8 @@ module _ {C : Type 0} (rules : Rules C) where
         }
 
     -- the run stands at the same line where other slots of the desk changed
-    pub between_kept : (stand : Stand) (run : CheckRun B) (first now : Slot → Told) → Between StandsFor held.feed feed stand run first
-        → now Feed ≡ first Feed → Between StandsFor held.feed feed stand run now
+    pub between_kept : (stand : Stand) (run : CheckRun B) (first now : Slot → Told) → StandsBetweenLines StandsFor held.feed feed stand run first
+        → now Feed ≡ first Feed → StandsBetweenLines StandsFor held.feed feed stand run now
     between_kept stand run first now between same = record {
       events = between.events;
       at = at_kept StandsFor held.feed feed between.events run.feed first now between.at same;

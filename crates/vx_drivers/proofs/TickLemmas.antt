@@ -23,7 +23,7 @@ use Rattle.vx_drivers.specs.Exits.{exit_of_stop}
 use Rattle.vx_drivers.specs.Sending.{Sent, Text}
 use Rattle.vx_drivers.specs.TickExits.{IsTickExit}
 use Rattle.vx_drivers.specs.TickRun.{TickRules, TickStand, TakesEvent, counts_line, counts_text, no_events, one_more, published_count, refused_count, undecided_count}
-use Rattle.vx_drivers.specs.TickSteps.{AnswersEvent, GivesTexts, HasCounted, IsWrittenAs, IsAtEvent, SendsBoth, SendsTick, TALLY_MAX, answers_counted}
+use Rattle.vx_drivers.specs.TickSteps.{AnswersEvent, GivesTexts, HasCountedTicks, IsWrittenAs, IsAtEvent, SendsBoth, SendsTick, TALLY_MAX, answers_counted}
 use Rattle.vx_drivers.proofs.AlongLemmas.{along_more}
 use Rattle.vx_drivers.proofs.SendingLemmas.{sent_none}
 
@@ -75,7 +75,7 @@ stop_exit StandsFor held feed events reader told stop.NoMemory reads = tt
 -- the counts stay those of the answers
 pub counted_same : {A T : Type 0} (rules : TickRules A) (stand : TickStand A) (old run : TickRun T)
     → run.published ≡ old.published → run.undecided ≡ old.undecided → run.refused ≡ old.refused
-    → HasCounted rules stand old → HasCounted rules stand run
+    → HasCountedTicks rules stand old → HasCountedTicks rules stand run
 counted_same rules stand old run p u r h =
     let few : answers_counted old ≤ length stand.events * TALLY_MAX = h.few in
     record {
@@ -87,7 +87,7 @@ counted_same rules stand old run p u r h =
     }
 
 -- the counts of a run make its last line
-pub counts_are : {A T : Type 0} (rules : TickRules A) (stand : TickStand A) (run : TickRun T) → HasCounted rules stand run
+pub counts_are : {A T : Type 0} (rules : TickRules A) (stand : TickStand A) (run : TickRun T) → HasCountedTicks rules stand run
     → counts_line run.published run.undecided run.refused ≡ counts_text rules stand.answers
 counts_are rules stand run h =
     ap (λ n. counts_line n run.undecided run.refused) h.published
@@ -106,7 +106,7 @@ module _ {A T : Type 0} (rules : TickRules A) (StandsFor : T → List Event → 
     (stand : TickStand A) (event : Event) where
   counted_none : (old run : TickRun T) → run.published ≡ old.published → run.undecided ≡ old.undecided
       → run.refused ≡ old.refused
-      → HasCounted rules stand old → HasCounted rules (one_more stand event None) run
+      → HasCountedTicks rules stand old → HasCountedTicks rules (one_more stand event None) run
   counted_none old run p u r h =
       let size = length_push stand.events event in
       let few : answers_counted old ≤ length stand.events * TALLY_MAX = h.few in
@@ -121,7 +121,7 @@ module _ {A T : Type 0} (rules : TickRules A) (StandsFor : T → List Event → 
       → run.published ≡ old.published + tally.published → run.undecided ≡ old.undecided + tally.undecided
       → run.refused ≡ old.refused + tally.refused
       → answers_counted run ≤ answers_counted old + TALLY_MAX
-      → HasCounted rules stand old → HasCounted rules (one_more stand event (Some answer)) run
+      → HasCountedTicks rules stand old → HasCountedTicks rules (one_more stand event (Some answer)) run
   counted_one old run answer tally is p u r more h =
       let size = length_push stand.events event in
       let few : answers_counted old ≤ length stand.events * TALLY_MAX = h.few in

@@ -88,13 +88,13 @@ ending_for line.NoEol = no_eol
 ending_for line.TooMany = too_many
 
 -- the exit of a run that stands here, before the rest
-abbrev pub Ends : {C : Type 0} → Rules C → Reading → Stand → TextLines → Exit → Type 0
-Ends rules feed stand rest Done = AllAnswered feed rest × (count_no stand.answers ≡ 0)
-Ends rules feed stand rest (SaidNo count) = AllAnswered feed rest × (count ≡ count_no stand.answers) × (1 ≤ count)
-Ends rules feed stand rest (BadFeed number why) =
+abbrev pub EndsWithRest : {C : Type 0} → Rules C → Reading → Stand → TextLines → Exit → Type 0
+EndsWithRest rules feed stand rest Done = AllAnswered feed rest × (count_no stand.answers ≡ 0)
+EndsWithRest rules feed stand rest (SaidNo count) = AllAnswered feed rest × (count ≡ count_no stand.answers) × (1 ≤ count)
+EndsWithRest rules feed stand rest (BadFeed number why) =
     (feed.bad ≡ Some (record { line = number; cause = bad_cause why })) × StopsAt rules feed stand rest.lines rest.ending
-Ends rules feed stand rest (BadCerts number why) = (number ≡ length stand.answers + 1) × (rest ≡ ended (ending_for why))
-Ends rules feed stand rest _ = ⊥
+EndsWithRest rules feed stand rest (BadCerts number why) = (number ≡ length stand.answers + 1) × (rest ≡ ended (ending_for why))
+EndsWithRest rules feed stand rest _ = ⊥
 
 -- the last line comes where all was read
 abbrev pub last_line : Stand → Exit → Text
@@ -107,7 +107,7 @@ pub record Runs {C : Type 0} (rules : Rules C) (feed : Reading) (certs : TextLin
   pub stand : Stand
   pub rest : TextLines
   pub before : StandsBefore rules feed certs stand rest
-  pub ends : Ends rules feed stand rest exit
+  pub ends : EndsWithRest rules feed stand rest exit
   pub text_is : text ≡ answers_text stand.answers ++ last_line stand exit
 
 -- over the same feed and certificates there is one exit at most, and one text

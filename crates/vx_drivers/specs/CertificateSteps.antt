@@ -51,7 +51,7 @@ answered_lines run = run.yes + run.no
 -- ---- one line
 
 -- a run between two lines
-pub record Between {B : Type 0} (StandsFor : B → List Event → Type 0) (held : Option (List ℕ)) (feed : Option Reading)
+pub record StandsBetweenLines {B : Type 0} (StandsFor : B → List Event → Type 0) (held : Option (List ℕ)) (feed : Option Reading)
     (stand : Stand) (run : CheckRun B) (told : Slot → Told) : Type 0 where
   pub events : List Event
   pub at : IsAt StandsFor held feed events run.feed told
@@ -61,9 +61,9 @@ pub record Between {B : Type 0} (StandsFor : B → List Event → Type 0) (held 
   pub yes : run.yes ≡ count_yes stand.answers
   pub no : run.no ≡ count_no stand.answers
 
-abbrev pub IsBetween : {B : Type 0} → (B → List Event → Type 0) → CheckRun B → (Slot → Told) → Type 0
-IsBetween StandsFor run told =
-    (held : Option (List ℕ)) × (feed : Option Reading) × (stand : Stand) × Between StandsFor held feed stand run told
+abbrev pub IsBetweenLines : {B : Type 0} → (B → List Event → Type 0) → CheckRun B → (Slot → Told) → Type 0
+IsBetweenLines StandsFor run told =
+    (held : Option (List ℕ)) × (feed : Option Reading) × (stand : Stand) × StandsBetweenLines StandsFor held feed stand run told
 
 -- a line has this answer, by which the run stands at the next line
 pub record IsAnswered {C B : Type 0} (rules : Rules C) (StandsFor : B → List Event → Type 0) (held : Option (List ℕ))
@@ -106,7 +106,7 @@ ComesOf rules StandsFor held feed stand line words run told (Err exit) = EndsBef
 abbrev pub ComesOfLine : {C B : Type 0} → Rules C → (B → List Event → Type 0) → List ℕ → CheckRun B → (Slot → Told)
     → CheckRun B → (Slot → Told) → Result Bool Exit → Type 0
 ComesOfLine rules StandsFor line old before new after result =
-    (held : Option (List ℕ)) (feed : Option Reading) (stand : Stand) → Between StandsFor held feed stand old before
+    (held : Option (List ℕ)) (feed : Option Reading) (stand : Stand) → StandsBetweenLines StandsFor held feed stand old before
     → ComesOf rules StandsFor held feed stand line new.words.items new after result
 
 -- the output line of the next answer, of which the words are in hand
@@ -124,7 +124,7 @@ pub record SendsAnswer {C B : Type 0} (rules : Rules C) (StandsFor : B → List 
   pub answer : Answer
   pub reached : ℕ
   pub answers : IfSome feed (λ f. Answers rules f stand line (answered stand answer reached))
-  pub between : Between StandsFor held feed (answered stand answer reached) run after
+  pub between : StandsBetweenLines StandsFor held feed (answered stand answer reached) run after
   pub sent : Sent (next_text stand answer) (before Out) (after Out)
 
 -- a write of it failed, when the feed was read up to the line that is then reached
@@ -153,10 +153,10 @@ AnswersLine rules StandsFor held feed stand line run before after (Err exit) =
     EndsAtLine rules held feed stand line before after exit
 
 -- a line that a run reads is answered
-abbrev pub AnswersNext : {C B : Type 0} → Rules C → (B → List Event → Type 0) → List ℕ → CheckRun B → (Slot → Told)
+abbrev pub AnswersNextLine : {C B : Type 0} → Rules C → (B → List Event → Type 0) → List ℕ → CheckRun B → (Slot → Told)
     → CheckRun B → (Slot → Told) → Result Unit Exit → Type 0
-AnswersNext rules StandsFor line old before new after result =
-    (held : Option (List ℕ)) (feed : Option Reading) (stand : Stand) → Between StandsFor held feed stand old before
+AnswersNextLine rules StandsFor line old before new after result =
+    (held : Option (List ℕ)) (feed : Option Reading) (stand : Stand) → StandsBetweenLines StandsFor held feed stand old before
     → AnswersLine rules StandsFor held feed stand line new before after result
 
 -- ---- from the start of the run
@@ -170,7 +170,7 @@ pub record IsUnderWay {C B : Type 0} (rules : Rules C) (StandsFor : B → List E
   pub read : held.side ≡ prepend_known (text_of lines) (to_come reader (now Side))
   pub are_first : certs ≡ option_map (lines_then lines) rest
   pub steps : IfSome feed (λ f. Along (Answers rules f) start lines stand)
-  pub between : Between StandsFor held.feed feed stand run now
+  pub between : StandsBetweenLines StandsFor held.feed feed stand run now
   pub sent : Sent (answers_text stand.answers) before (now Out)
 
 -- a fact about a feed and certificates that are told

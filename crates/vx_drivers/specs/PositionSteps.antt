@@ -11,19 +11,20 @@ use Rattle.vx_feed.specs.declared.events.Event.{Event}
 use Rattle.vx_feed.specs.Feed.{Reading}
 use Rattle.vx_feed.specs.Order.{AreLawful}
 use Rattle.vx_settle.specs.declared.fault.PositionFault.{PositionFault}
+use Rattle.vx_blocks.specs.declared.split_lines.SplitLines.{SplitLines}
+use Rattle.vx_blocks.specs.SplitLines.{lines_coming}
+use Rattle.vx_blocks.specs.Given.{HasGiven, IsCutAfter, WereRead}
 use Rattle.vx_reading.specs.FeedReading.{Says, all_good}
-use Rattle.vx_reading.specs.WhatWasRead.{EventsRead, IsCutAfter, WereRead}
+use Rattle.vx_reading.specs.WhatWasRead.{EventsRead}
 use Rattle.vx_drivers.specs.declared.exit.Exit.{Exit}
 use Rattle.vx_drivers.specs.declared.exit.Exit.TheVariants.{BadPositions, ReadFault, NoMemory as WantsMemory}
 use Rattle.vx_drivers.specs.declared.exit.PositionCause.TheVariants.{Fault}
 use Rattle.vx_drivers.specs.declared.limits.TheConstants.{POSITION_LINES_MAX, POSITION_LINE_LEN_MAX}
-use Rattle.vx_drivers.specs.declared.position_lines.PositionLines.{PositionLines}
 use Rattle.vx_drivers.specs.declared.position_run.PositionRun.{PositionRun}
 use Rattle.vx_drivers.specs.Along.{Along}
 use Rattle.vx_drivers.specs.Exits.{is_cut, is_write_fault}
 use Rattle.vx_drivers.specs.Held.{Held}
 use Rattle.vx_drivers.specs.PositionExits.{IsLineFault}
-use Rattle.vx_drivers.specs.PositionLines.{HasGivenLines, lines_coming}
 use Rattle.vx_drivers.specs.PositionRun.{PositionRules, RunsPositionsBy, Settles, positions_of, settled_text}
 use Rattle.vx_drivers.specs.Sending.{Begins, CutsOff, Sent, Text}
 
@@ -32,7 +33,7 @@ abbrev pub positions_told : (Slot → Told) → Option TextLines
 positions_told told = option_map positions_of (told Side).left
 
 -- the lines that are to come, as many as there may be after so many
-abbrev pub allowed_positions : ℕ → PositionLines → (Slot → Told) → Option TextLines
+abbrev pub allowed_positions : ℕ → SplitLines → (Slot → Told) → Option TextLines
 allowed_positions count positions told = option_map (at_most (POSITION_LINES_MAX - count)) (lines_coming positions told)
 
 -- ---- what answers
@@ -203,7 +204,7 @@ module _ {A I S : Type 0} (rules : PositionRules A I) (StandsAt : S → A → Li
 
   module _ (held : Held) (feed : Option Reading) (positions : Option TextLines) (before : Slot → Told) where
     -- the opening and the first lines are answered and sent, and these lines are to come
-    pub record IsSettling (run : PositionRun S) (ahead : PositionLines) (now : Slot → Told) (rest : Option TextLines) : Type 0 where
+    pub record IsSettling (run : PositionRun S) (ahead : SplitLines) (now : Slot → Told) (rest : Option TextLines) : Type 0 where
       pub events : List Event
       pub feed_is : Says feed (all_good events)
       pub events_read : EventsRead events held.feed (now Feed)
@@ -212,7 +213,8 @@ module _ {A I S : Type 0} (rules : PositionRules A I) (StandsAt : S → A → Li
       pub items : List I
       pub lines : List (List ℕ)
       pub are_first : positions ≡ option_map (lines_then lines) rest
-      pub lines_read : HasGivenLines lines held.side ahead now
+      pub slot : ahead.lines.slot ≡ Side
+      pub lines_read : HasGiven lines held.side ahead now
       pub steps : Along (Settles rules answer) [] lines items
       pub sheet : StandsAt run.sheet answer items
       pub count : run.count ≡ length items
@@ -222,11 +224,11 @@ module _ {A I S : Type 0} (rules : PositionRules A I) (StandsAt : S → A → Li
     -- and no line is left
     abbrev pub IsThroughPositions : PositionRun S → (Slot → Told) → Type 0
     IsThroughPositions run now =
-        (ahead : PositionLines) × (rest : Option TextLines) × IsSettling run ahead now rest
+        (ahead : SplitLines) × (rest : Option TextLines) × IsSettling run ahead now rest
         × IfSome rest (λ lines. lines ≡ ended at_end)
 
     -- one line more is settled, or none is left, or the run ended
-    abbrev pub GoesOnPositions : PositionRun S → PositionLines → (Slot → Told) → Option TextLines → Result Bool Exit → Type 0
+    abbrev pub GoesOnPositions : PositionRun S → SplitLines → (Slot → Told) → Option TextLines → Result Bool Exit → Type 0
     GoesOnPositions run ahead now rest (Ok true) = IsSettling run ahead now rest
     GoesOnPositions run ahead now rest (Ok false) = IsThroughPositions run now
     GoesOnPositions run ahead now rest (Err exit) = HasEndedPositions rules held feed positions before now exit
@@ -239,17 +241,17 @@ module _ {A I S : Type 0} (rules : PositionRules A I) (StandsAt : S → A → Li
   -- ---- the clauses of a run
 
   -- the lines that are to come to a run, as many as there may be
-  abbrev pub rest_of : PositionRun S → PositionLines → (Slot → Told) → Option TextLines
+  abbrev pub rest_of : PositionRun S → SplitLines → (Slot → Told) → Option TextLines
   rest_of run ahead told = allowed_positions run.count ahead told
 
   -- a run that may go on
-  abbrev pub MaySettle : PositionRun S → PositionLines → (Slot → Told) → Type 0
+  abbrev pub MaySettle : PositionRun S → SplitLines → (Slot → Told) → Type 0
   MaySettle run ahead told =
       (held : Held) × (feed : Option Reading) × (positions : Option TextLines) × (before : Slot → Told)
       × IsSettling held feed positions before run ahead told (rest_of run ahead told)
 
   -- the next line is settled
-  abbrev pub GoesOnePosition : PositionRun S → PositionLines → (Slot → Told) → PositionRun S → PositionLines
+  abbrev pub GoesOnePosition : PositionRun S → SplitLines → (Slot → Told) → PositionRun S → SplitLines
       → (Slot → Told) → Result Bool Exit → Type 0
   GoesOnePosition old lines told new more now result =
       (held : Held) (feed : Option Reading) (positions : Option TextLines) (before : Slot → Told)
@@ -257,7 +259,7 @@ module _ {A I S : Type 0} (rules : PositionRules A I) (StandsAt : S → A → Li
       → GoesOnPositions held feed positions before new more now (rest_of new more now) result
 
   -- all lines are settled
-  abbrev pub GoesToLastPosition : PositionRun S → PositionLines → (Slot → Told) → PositionRun S → (Slot → Told)
+  abbrev pub GoesToLastPosition : PositionRun S → SplitLines → (Slot → Told) → PositionRun S → (Slot → Told)
       → Result Unit Exit → Type 0
   GoesToLastPosition old lines told new now result =
       (held : Held) (feed : Option Reading) (positions : Option TextLines) (before : Slot → Told)

@@ -71,7 +71,7 @@ abbrev pub events_read : {T : Type 0} → TickRun T → ℕ
 events_read run = run.feed.count
 
 -- the answers so far are counted
-pub record HasCounted {A T : Type 0} (rules : TickRules A) (stand : TickStand A) (run : TickRun T) : Type 0 where
+pub record HasCountedTicks {A T : Type 0} (rules : TickRules A) (stand : TickStand A) (run : TickRun T) : Type 0 where
   pub published : run.published ≡ published_count rules stand.answers
   pub undecided : run.undecided ≡ undecided_count rules stand.answers
   pub refused : run.refused ≡ refused_count rules stand.answers
@@ -128,18 +128,18 @@ pub record IsNewTicks {T : Type 0} (StandsFor : T → List Event → Type 0) (ru
 module _ {A T : Type 0} (rules : TickRules A) (StandsFor : T → List Event → Type 0) where
   module _ (held : Option (List ℕ)) (feed : Option Reading) where
     -- these events are read, and those of the stand are answered and counted
-    pub record HasRead (stand : TickStand A) (events : List Event) (run : TickRun T) (told : Slot → Told) : Type 0 where
+    pub record HasReadEvents (stand : TickStand A) (events : List Event) (run : TickRun T) (told : Slot → Told) : Type 0 where
       pub at : IsAt StandsFor held feed events run.feed told
       pub steps : Along (TakesEvent rules) no_events stand.events stand
-      pub counted : HasCounted rules stand run
+      pub counted : HasCountedTicks rules stand run
 
     -- a run between two events
     abbrev pub IsBetweenEvents : TickStand A → TickRun T → (Slot → Told) → Type 0
-    IsBetweenEvents stand run told = HasRead stand stand.events run told
+    IsBetweenEvents stand run told = HasReadEvents stand stand.events run told
 
     -- a run that has read one event more
     abbrev pub IsAtEvent : TickStand A → Event → TickRun T → (Slot → Told) → Type 0
-    IsAtEvent stand event run told = HasRead stand (stand.events ++ event ∷ []) run told
+    IsAtEvent stand event run told = HasReadEvents stand (stand.events ++ event ∷ []) run told
 
     -- an event is given this, and its texts were sent
     pub record SendsTick (stand : TickStand A) (event : Event) (run : TickRun T) (before after : Slot → Told) : Type 0 where

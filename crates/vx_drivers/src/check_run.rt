@@ -64,8 +64,8 @@ impl<B: TakesEvents> CheckRun<B> {
     ghost use Rattle.vx_reading.specs.FeedReading.{StaysRead};
     ghost use Rattle.vx_drivers.specs.Answers.{answer_of, one_no, one_yes};
     ghost use Rattle.vx_drivers.specs.CertificateExits.{IsCertificateExit};
-    ghost use Rattle.vx_drivers.specs.CertificateSteps.{AnswersNext, ComesOfLine, EndsRun, GoesOneOn, GoesToEnd};
-    ghost use Rattle.vx_drivers.specs.CertificateSteps.{IsBetween, IsNew, MayEnd, MayGoOn, answered_lines, next_line};
+    ghost use Rattle.vx_drivers.specs.CertificateSteps.{AnswersNextLine, ComesOfLine, EndsRun, GoesOneOn, GoesToEnd};
+    ghost use Rattle.vx_drivers.specs.CertificateSteps.{IsBetweenLines, IsNew, MayEnd, MayGoOn, answered_lines, next_line};
     ghost use Rattle.vx_drivers.specs.Exits.{calls_in, exit_calls};
 
     /// A run that has read nothing.
@@ -91,7 +91,7 @@ impl<B: TakesEvents> CheckRun<B> {
         desk: &mut D,
         line: &[u8],
     ) -> Result<bool, Exit>
-        requires between { IsBetween B.StandsFor self.old (D.told desk.old) }
+        requires between { IsBetweenLines B.StandsFor self.old (D.told desk.old) }
         requires open { IsTrue (D.told desk.old Slot.Feed).is_open }
         ensures comes { ComesOfLine C.rules B.StandsFor line.now
             self.old (D.told desk.old) self.new (D.told desk.new) result }
@@ -151,11 +151,11 @@ impl<B: TakesEvents> CheckRun<B> {
         desk: &mut D,
         line: &[u8],
     ) -> Result<(), Exit>
-        requires between { IsBetween B.StandsFor self.old (D.told desk.old) }
+        requires between { IsBetweenLines B.StandsFor self.old (D.told desk.old) }
         requires few { answered_lines self.old < CERT_LINES_MAX }
         requires open { IsTrue (D.told desk.old Slot.Feed).is_open }
         requires out { IsTrue (D.told desk.old Slot.Out).is_open }
-        ensures answers { AnswersNext C.rules B.StandsFor line.now
+        ensures answers { AnswersNextLine C.rules B.StandsFor line.now
             self.old (D.told desk.old) self.new (D.told desk.new) result }
         ensures lines { OnOk result (answered_lines self.new ≡ answered_lines self.old + 1) }
         ensures stays_read { StaysRead self.old.feed (D.told desk.old) (D.told desk.new) }

@@ -34,7 +34,7 @@ pub(crate) fn write_answer(
 {
     line.clear();
     push_line_start(alloc, line, if yes { "YES" } else { "NO" }, number)?;
-    line.extend_from_slice(words).map_err(|_| NoMemory)?;
+    line.extend_from_slice(words)?;
     push_text(line, "\n")
 }
 

@@ -1,22 +1,22 @@
 //! The way by positions: the feed is read to its end and its opening answered; then each line of positions is
 //! settled before the device is asked for bytes behind it, and the last lines are sent behind the positions' end.
 
-ghost use Rattle.std.specs.Prelude.{◌≡◌, ◌==◌, ◌+◌, ◌≤◌, [], IfErr, IsTrue};
+ghost use Rattle.std.specs.Prelude.{◌≡◌, ◌+◌, ◌≤◌, [], IfErr, IsTrue};
 ghost use Rattle.vx_desk.specs.Calls.{IsStep};
 ghost use Rattle.vx_reading.specs.FeedReading.{feed_told};
 ghost use Rattle.vx_drivers.specs.Exits.{calls_in, exit_calls};
 ghost use Rattle.vx_drivers.specs.Held.{held_by};
 ghost use Rattle.vx_drivers.specs.PositionExits.{IsPositionExit};
-ghost use Rattle.vx_drivers.specs.PositionLines.{bad_behind as cause_behind};
 ghost use Rattle.vx_drivers.specs.PositionSteps.{HasEndedPositions, OpensRun, positions_told};
 
 use crate::devices::send_line;
 use crate::exit::{Exit, PositionCause};
-use crate::limits::POSITION_LINES_MAX;
-use crate::position_lines::{PositionLines, Rest};
+use crate::limits::{POSITION_LINE_LEN_MAX, POSITION_LINES_MAX};
+use crate::position_lines::{bad_behind, read_on};
 use crate::positions::{AnswersOpening, SettlesPositions};
 use crate::tick_output::send_both;
 use std::alloc::Global;
+use vx_blocks::SplitLines;
 use vx_desk::{Desk, Slot};
 use vx_fields::Fields;
 use vx_num::NoMemory;
@@ -44,27 +44,10 @@ fn bad_line(count: u64, cause: PositionCause) -> Exit
     }
 }
 
-/// Why the line behind those that were split is bad, after so many lines; `None` at the end.
-fn bad_behind(rest: Rest, count: u64) -> Option<PositionCause>
-    ensures { result ≡ cause_behind rest (count == POSITION_LINES_MAX) }
-{
-    match rest {
-        Rest::Unsplit(fault) => {
-            if count == POSITION_LINES_MAX {
-                Some(PositionCause::TooMany)
-            } else {
-                Some(PositionCause::Fault(fault))
-            }
-        }
-        Rest::TooLong => Some(PositionCause::TooLong),
-        Rest::NoEol => Some(PositionCause::NoEol),
-        Rest::More | Rest::End => None,
-    }
-}
-
 impl<S: SettlesPositions> PositionRun<S> {
     ghost use Rattle.std.specs.Prelude.{◌≡◌, ◌<◌, ◌+◌, ◌≤◌, ℕ, List, [], IsTrue, IfErr, IfOk, OnOk};
-    ghost use Rattle.vx_drivers.specs.PositionLines.{IsPositionLines, IsSplit};
+    ghost use Rattle.vx_blocks.specs.SplitLines.{IsSplit};
+    ghost use Rattle.vx_drivers.specs.PositionLines.{IsPositionLines};
     ghost use Rattle.vx_desk.specs.Told.{ChangesOnly};
     ghost use Rattle.vx_desk.specs.Calls.{IsStep};
     ghost use Rattle.vx_drivers.specs.Exits.{calls_in, exit_calls};
@@ -100,7 +83,7 @@ impl<S: SettlesPositions> PositionRun<S> {
     fn settle_next<D: Desk>(
         &mut self,
         desk: &mut D,
-        positions: &mut PositionLines,
+        positions: &mut SplitLines,
     ) -> Result<bool, Exit>
         requires may { MaySettle S.rules S.StandsAt self.old positions.old (D.told desk.old) }
         requires lines { IsPositionLines positions.old }
@@ -115,7 +98,7 @@ impl<S: SettlesPositions> PositionRun<S> {
         ensures exits { IfErr result IsPositionExit }
         ensures step { IsStep (calls_in result) (D.told desk.old) (D.told desk.new) }
     {
-        match positions.read_on(desk) {
+        match read_on(positions, desk) {
             Ok(()) => {}
             Err(exit) => return Err(exit),
         }
@@ -138,11 +121,7 @@ impl<S: SettlesPositions> PositionRun<S> {
     }
 
     /// Settles each line.
-    fn settle_all<D: Desk>(
-        &mut self,
-        desk: &mut D,
-        positions: &mut PositionLines,
-    ) -> Result<(), Exit>
+    fn settle_all<D: Desk>(&mut self, desk: &mut D, positions: &mut SplitLines) -> Result<(), Exit>
         requires may { MaySettle S.rules S.StandsAt self.old positions.old (D.told desk.old) }
         requires lines { IsPositionLines positions.old }
         requires few { self.old.count ≤ POSITION_LINES_MAX }
@@ -238,7 +217,7 @@ pub fn settle_positions<B: AnswersOpening, D: Desk>(alloc: Global, book: B, desk
     ensures exits { IsPositionExit result }
     ensures step { IsStep (exit_calls result) (D.told desk.old) (D.told desk.new) }
 {
-    let mut positions = match PositionLines::new(alloc) {
+    let mut positions = match SplitLines::new(alloc, Slot::Side, POSITION_LINE_LEN_MAX) {
         Ok(positions) => positions,
         Err(NoMemory) => return Exit::NoMemory,
     };

@@ -4,8 +4,8 @@ ghost use Rattle.std.specs.Prelude.{◌≡◌, ◌<◌, ℕ, List, [], Some, Res
 ghost use Rattle.vx_feed.specs.declared.events.Event.{Event};
 ghost use Rattle.vx_settle.specs.declared.fault.PositionFault.{PositionFault};
 ghost use Rattle.vx_settle.specs.Form.{unsplit_fault};
+ghost use Rattle.vx_blocks.specs.SplitLines.{IsSplit};
 ghost use Rattle.vx_drivers.specs.declared.limits.TheConstants.{POSITION_LINES_MAX};
-ghost use Rattle.vx_drivers.specs.PositionLines.{IsSplit};
 ghost use Rattle.vx_drivers.specs.PositionRun.{PositionRules};
 ghost use Rattle.vx_drivers.specs.PositionSteps.{AnswersOpeningOf, HasItems, HasTakenUpLawful, SettlesNext, WritesLast};
 

@@ -10,8 +10,8 @@ use vx_num::{NoMemory, write_decimal};
 pub fn push_text(line: &mut Vec<u8>, text: &str) -> Result<(), NoMemory>
     ensures { OnOk result (line.new.items ≡ line.old.items ++ text.now) }
 {
-    line.extend_from_slice(text.as_bytes())
-        .map_err(|_| NoMemory)
+    line.extend_from_slice(text.as_bytes())?;
+    Ok(())
 }
 
 /// Appends a whole number.

@@ -14,7 +14,8 @@ use Rattle.vx_feed.specs.declared.limits.TheConstants.{LINES_MAX, STRIKES_MAX}
 use Rattle.vx_feed.specs.declared.order.Order.{Order}
 use Rattle.vx_feed.specs.Same.{is_same_expiry, is_same_series}
 use Rattle.vx_feed.specs.Listed.{expiry_of, is_declared, is_listed, other_side, strikes_of, trade_date}
-use Rattle.vx_feed.specs.Order.{first_fault, has_too_many_expiries, has_too_many_strikes, is_after_end, is_duplicate_expiry, is_duplicate_series, is_misplaced, is_other_count, is_out_of_days, is_second_opening, is_time_back, is_too_many, is_undeclared, order_fault}
+use Rattle.vx_feed.specs.Order.{first_fault, has_too_many_expiries, has_too_many_strikes, is_after_end, is_duplicate_expiry, is_duplicate_series}
+use Rattle.vx_feed.specs.Order.{is_misplaced, is_other_count, is_out_of_days, is_second_opening, is_time_back, is_too_many, is_undeclared, order_fault}
 use Rattle.vx_feed.specs.Noted.{CanList, CanTake, MayNote, StandsFor, is_new_strike, keeps, kept_strikes}
 use Rattle.vx_feed.proofs.StrikeLemmas.{has_strike, has-strike_of}
 use Rattle.vx_feed.proofs.KeptLemmas.{any-kept}

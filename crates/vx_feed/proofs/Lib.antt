@@ -15,3 +15,5 @@ pub mod LawfulLists
 pub mod EndLaws
 pub mod RisingStrikes
 pub mod NextRows
+pub mod EventRanges
+pub mod ReadingLemmas

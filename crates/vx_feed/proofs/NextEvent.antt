@@ -95,7 +95,8 @@ cons-cond y false false p q r = refl
 pub next_before_opening : NextBeforeOpening
 next_before_opening [] e = elim (is_opening e) as (λ b. cond {A = List Event} b [] (e ∷ []) ≡ cond {A = List Event} b [] (e ∷ [])) [ true ↦ refl | false ↦ refl ]
 next_before_opening (y ∷ ys) e =
-    elim (is_opening y) as (λ b. cond {A = List Event} b [] (y ∷ before_opening (ys ++ e ∷ [])) ≡ cond {A = List Event} (b || list_any is_opening ys) (cond {A = List Event} b [] (y ∷ before_opening ys)) (cond {A = List Event} (is_opening e) (y ∷ ys) (y ∷ (ys ++ e ∷ [])))) [
+    elim (is_opening y) as (λ b. cond {A = List Event} b [] (y ∷ before_opening (ys ++ e ∷ []))
+    ≡ cond {A = List Event} (b || list_any is_opening ys) (cond {A = List Event} b [] (y ∷ before_opening ys)) (cond {A = List Event} (is_opening e) (y ∷ ys) (y ∷ (ys ++ e ∷ [])))) [
       | true ↦ refl
       | false ↦ ap (λ l. y ∷ l) (next_before_opening ys e) ∙ cons-cond y (list_any is_opening ys) (is_opening e) (before_opening ys) ys (ys ++ e ∷ [])
     ]

@@ -167,7 +167,8 @@ plain_joined xs ys h k = list_all-append is_plain xs ys ∙ both (list_all is_pl
 plain_behind : (fields : List (List ℕ)) → list_all are_field_bytes fields ≡ true → list_all is_plain (behind_commas fields) ≡ true
 plain_behind [] h = refl
 plain_behind (field ∷ fields) h =
-    plain_joined (comma ∷ field) (behind_commas fields) (plain_field field (both_left (are_field_bytes field) (list_all are_field_bytes fields) h)) (plain_behind fields (both_right (are_field_bytes field) (list_all are_field_bytes fields) h))
+    plain_joined (comma ∷ field) (behind_commas fields) (plain_field field (both_left (are_field_bytes field) (list_all are_field_bytes fields) h))
+    (plain_behind fields (both_right (are_field_bytes field) (list_all are_field_bytes fields) h))
 
 -- ---- each part is read back
 
@@ -240,7 +241,8 @@ kind_some e rest =
     ]
 
 -- a plain line that is not empty is read by its fields
-by_fields : (before : List Event) (line : List ℕ) (fields : List (List ℕ)) (e : Event) → (length line == 0) ≡ false → list_all is_plain line ≡ true → fields_of_line line ≡ fields → event_of_fields fields ≡ Ok e → order_fault before e ≡ None → event_of_line before line ≡ Ok e
+by_fields : (before : List Event) (line : List ℕ) (fields : List (List ℕ)) (e : Event) → (length line == 0) ≡ false → list_all is_plain line ≡ true → fields_of_line line ≡ fields
+    → event_of_fields fields ≡ Ok e → order_fault before e ≡ None → event_of_line before line ≡ Ok e
 by_fields before line fields e some plain cut said order =
     rw (some, plain) (ap (λ fs. event_in_order before (event_of_fields fs)) cut ∙ ap (event_in_order before) said ∙ ap (λ f. event_unless f e) order)
 

@@ -3,6 +3,8 @@ use Rattle.std.specs.Prelude.{◌≡◌, ℕ, ◌+◌, ◌==◌, List, [], ◌�
 use Rattle.std.specs.List.{list_all, list_any}
 use Rattle.vx_lines.specs.TextLines as lines
 use Rattle.vx_fields.specs.Lines.{fields_of_line, is_plain}
+use Rattle.vx_fields.specs.declared.line.Unsplit.{Unsplit}
+use Rattle.vx_fields.specs.declared.line.Unsplit.TheVariants.{Empty, Byte}
 use Rattle.vx_feed.specs.declared.events.Event.{Event}
 use Rattle.vx_feed.specs.declared.faults.FeedFault.{FeedFault}
 use Rattle.vx_feed.specs.declared.faults.FeedFault.TheVariants as fault
@@ -24,10 +26,10 @@ event_in_order before (Ok e) = event_unless (order_fault before e) e
 abbrev pub next_event : List Event → List (List ℕ) → Result Event FeedFault
 next_event before fields = event_in_order before (event_of_fields fields)
 
--- the fault of a line that has no fields: it is empty, or a byte of it is not plain
-abbrev pub unsplit_fault : List ℕ → Option FeedFault
-unsplit_fault line =
-    if length line == 0 then Some fault.Kind else (if list_all is_plain line then None else Some fault.Byte)
+-- the fault of a line that has no fields, by why it has none
+abbrev pub fault_of_unsplit : Unsplit → FeedFault
+fault_of_unsplit Empty = fault.Kind
+fault_of_unsplit Byte = fault.Byte
 
 -- the event of a line after a list of events, or else the first fault
 abbrev pub event_of_line : List Event → List ℕ → Result Event FeedFault

@@ -12,4 +12,5 @@ pub mod Noted
 pub mod Next
 pub mod NextEvents
 pub mod NextRows
+pub mod LawfulPrefixes
 pub mod Written

@@ -6,7 +6,8 @@ use Rattle.vx_feed.specs.declared.events.Event.{Event}
 use Rattle.vx_feed.specs.declared.events.Event.TheVariants as event
 use Rattle.vx_feed.specs.declared.faults.FeedFault.{FeedFault}
 use Rattle.vx_feed.specs.declared.faults.FeedFault.TheVariants as fault
-use Rattle.vx_feed.specs.Order.{is_end, is_misplaced, is_after_end, is_time_back, is_duplicate_expiry, is_duplicate_series, is_undeclared, is_too_many, is_other_count, is_out_of_days, is_second_opening, order_causes, order_fault, IsLawfulNext, AreLawful}
+use Rattle.vx_feed.specs.Order.{is_end, is_misplaced, is_after_end, is_time_back, is_duplicate_expiry, is_duplicate_series, is_undeclared, is_too_many}
+use Rattle.vx_feed.specs.Order.{is_other_count, is_out_of_days, is_second_opening, order_causes, order_fault, IsLawfulNext, AreLawful}
 
 -- none of the tests holds
 abbrev pub NoneHolds : List Bool → Type 0
@@ -55,9 +56,11 @@ pub record FaultsByCause : Type 0 where
   pub end_count : (before : List Event) (e : Event) → (order_fault before e ≡ Some fault.EndCount)
       ↔ HoldsFirst (is_misplaced before e ∷ is_after_end before e ∷ is_time_back before e ∷ is_duplicate_expiry before e ∷ is_duplicate_series before e ∷ is_undeclared before e ∷ is_too_many before e ∷ []) (is_other_count before e)
   pub time_range : (before : List Event) (e : Event) → (order_fault before e ≡ Some fault.TimeRange)
-      ↔ HoldsFirst (is_misplaced before e ∷ is_after_end before e ∷ is_time_back before e ∷ is_duplicate_expiry before e ∷ is_duplicate_series before e ∷ is_undeclared before e ∷ is_too_many before e ∷ is_other_count before e ∷ []) (is_out_of_days before e)
+      ↔ HoldsFirst (is_misplaced before e ∷ is_after_end before e ∷ is_time_back before e ∷ is_duplicate_expiry before e ∷ is_duplicate_series before e ∷ is_undeclared before e
+      ∷ is_too_many before e ∷ is_other_count before e ∷ []) (is_out_of_days before e)
   pub second_opening : (before : List Event) (e : Event) → (order_fault before e ≡ Some fault.SecondOpening)
-      ↔ HoldsFirst (is_misplaced before e ∷ is_after_end before e ∷ is_time_back before e ∷ is_duplicate_expiry before e ∷ is_duplicate_series before e ∷ is_undeclared before e ∷ is_too_many before e ∷ is_other_count before e ∷ is_out_of_days before e ∷ []) (is_second_opening before e)
+      ↔ HoldsFirst (is_misplaced before e ∷ is_after_end before e ∷ is_time_back before e ∷ is_duplicate_expiry before e ∷ is_duplicate_series before e ∷ is_undeclared before e
+      ∷ is_too_many before e ∷ is_other_count before e ∷ is_out_of_days before e ∷ []) (is_second_opening before e)
 
 -- ---- lawful lists
 

@@ -1,6 +1,7 @@
 //! What can go wrong where a line of a feed is read.
 
 use thiserror::Error;
+use vx_fields::Unsplit;
 use vx_num::NoMemory;
 
 /// Why a line is no lawful next line of a feed.
@@ -62,5 +63,19 @@ impl From<NoMemory> for FeedFault {
 
     fn from(_refused: NoMemory) -> FeedFault {
         FeedFault::NoMemory
+    }
+}
+
+impl From<Unsplit> for FeedFault {
+    ghost use Rattle.std.specs.Prelude.{◌≡◌};
+    ghost use Rattle.vx_feed.specs.Feed.{fault_of_unsplit};
+
+    ghost from_gives = { λ why fault. fault ≡ fault_of_unsplit why };
+
+    fn from(why: Unsplit) -> FeedFault {
+        match why {
+            Unsplit::Empty => FeedFault::Kind,
+            Unsplit::Byte => FeedFault::Byte,
+        }
     }
 }

@@ -3,6 +3,7 @@
 
 ghost use Rattle.vx_feed.specs.Next.{NextQuote, NextRate, NextTrade, UnlistedHasNone, NextBeforeOpening, NextListed, NextDeclared, NextTradeDate, NextStrikes};
 ghost use Rattle.vx_feed.specs.NextEvents.{FaultIsOfFirstCause, InOrderHasNoCause, FaultsByCause, LeadingPartsAreLawful, OneMoreIsLawful, EndIsLast};
+ghost use Rattle.vx_feed.specs.LawfulPrefixes.{BadLineFollowsPrefix, LawfulFeedEnds, PrefixIsLawful};
 ghost use Rattle.vx_feed.specs.NextRows.{NextStrikesListed, NextRows, NextRowsListed};
 
 /// What stands for a series and for an expiry after one more event.
@@ -50,4 +51,11 @@ pub fn next_rows()
     ensures strikes { NextStrikesListed }
     ensures rows { NextRows }
     ensures listed { NextRowsListed }
+{}
+
+/// The lawful prefix of a text, and its bad line, which is the line after it.
+pub fn lawful_prefixes()
+    ensures lawful { PrefixIsLawful }
+    ensures follows { BadLineFollowsPrefix }
+    ensures ends { LawfulFeedEnds }
 {}

@@ -14,11 +14,11 @@ mod write;
 pub use events::Event;
 pub use faults::FeedFault;
 pub use laws::{
-    faults_by_cause, first_cause_is_answered, lawful_lists, next_listing, next_opening, next_rows,
-    next_standing,
+    faults_by_cause, first_cause_is_answered, lawful_lists, lawful_prefixes, next_listing,
+    next_opening, next_rows, next_standing,
 };
 pub use order::{Declared, Order};
-pub use read::{event_of_fields, line_fault, read_event};
+pub use read::{event_of_fields, read_event};
 pub use write::write_event;
 
 #[cfg(test)]

@@ -179,7 +179,8 @@ impl Order {
 
     // The expiry was declared before.
     fn is_duplicate_expiry(&self, event: &Event) -> bool
-        ensures { (events : List Event) → StandsFor self.now events → result ≡ order.is_duplicate_expiry events event.now }
+        ensures { (events : List Event) → StandsFor self.now events
+            → result ≡ order.is_duplicate_expiry events event.now }
     {
         match event {
             Event::Expiry(expiry) => self.is_declared(*expiry),
@@ -189,7 +190,8 @@ impl Order {
 
     // The series was listed before.
     fn is_duplicate_series(&self, event: &Event) -> bool
-        ensures { (events : List Event) → StandsFor self.now events → result ≡ order.is_duplicate_series events event.now }
+        ensures { (events : List Event) → StandsFor self.now events
+            → result ≡ order.is_duplicate_series events event.now }
     {
         match event {
             Event::Series(symbol) => self.is_listed(symbol),
@@ -217,7 +219,8 @@ impl Order {
 
     // The event declares one expiry too many.
     fn has_too_many_expiries(&self, event: &Event) -> bool
-        ensures { (events : List Event) → StandsFor self.now events → result ≡ order.has_too_many_expiries events event.now }
+        ensures { (events : List Event) → StandsFor self.now events
+            → result ≡ order.has_too_many_expiries events event.now }
     {
         match event {
             Event::Expiry(_) => self.expiries.len() >= EXPIRIES_MAX,
@@ -227,7 +230,8 @@ impl Order {
 
     // The event lists one distinct strike of an expiry too many.
     fn has_too_many_strikes(&self, event: &Event) -> bool
-        ensures { (events : List Event) → StandsFor self.now events → result ≡ order.has_too_many_strikes events event.now }
+        ensures { (events : List Event) → StandsFor self.now events
+            → result ≡ order.has_too_many_strikes events event.now }
     {
         match event {
             Event::Series(symbol) => {
@@ -279,7 +283,8 @@ impl Order {
 
     // An opening after an opening.
     fn is_second_opening(&self, event: &Event) -> bool
-        ensures { (events : List Event) → StandsFor self.now events → result ≡ order.is_second_opening events event.now }
+        ensures { (events : List Event) → StandsFor self.now events
+            → result ≡ order.is_second_opening events event.now }
     {
         match event {
             Event::Opening { .. } => self.opened,
@@ -290,7 +295,8 @@ impl Order {
     // The first fault of a quote, a trade or a tick of this minute after the events so far: what else
     // it says never makes one.
     fn timed_fault(&self, time: u16) -> Option<FeedFault>
-        ensures { (events : List Event) → StandsFor self.now events → result ≡ order.order_fault events (Event.Tick time) }
+        ensures { (events : List Event) → StandsFor self.now events
+            → result ≡ order.order_fault events (Event.Tick time) }
     {
         if self.lines == 0 {
             return Some(FeedFault::NotFirst);
@@ -402,7 +408,8 @@ impl Order {
     /// end. Where memory is wanting nothing is noted, and it stands for the same list as before.
     pub fn note(&mut self, event: &Event) -> Result<(), NoMemory>
         requires { MayNote self.old event.now }
-        ensures noted { (events : List Event) → StandsFor self.old events → OnOk result (StandsFor self.new (events ++ event.now ∷ [])) }
+        ensures noted { (events : List Event) → StandsFor self.old events
+            → OnOk result (StandsFor self.new (events ++ event.now ∷ [])) }
         ensures refused { (events : List Event) → StandsFor self.old events → OnErr result (StandsFor self.new events) }
     {
         self.take(event)?;

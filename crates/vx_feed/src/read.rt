@@ -2,7 +2,7 @@
 
 ghost use Rattle.std.specs.Prelude.{◌≡◌, ◌⊎◌, IfOk, List};
 ghost use Rattle.vx_feed.specs.declared.events.Event.{Event};
-ghost use Rattle.vx_feed.specs.Feed.{event_of_line, next_event, unsplit_fault};
+ghost use Rattle.vx_feed.specs.Feed.{event_of_line, next_event};
 ghost use Rattle.vx_feed.specs.Noted.{StandsFor};
 ghost use Rattle.vx_feed.specs.Order.{IsLawfulNext};
 ghost use Rattle.vx_feed.specs.Ranges.{IsInRange};
@@ -12,12 +12,12 @@ use crate::faults::FeedFault;
 use crate::form::read_form;
 use crate::order::Order;
 use std::alloc::Global;
-use vx_fields::{FieldTable, Fields, LineBlock, is_plain_line};
+use vx_fields::{FieldTable, Fields, LineBlock, why_unsplit};
 
 /// The event of a line that was split into its fields, after the events noted, or the first fault.
 ///
 /// An event that is answered is lawful next after the events noted. Takes no memory. For a line that
-/// can't be split ask [`line_fault`] first.
+/// can't be split the fault is that of [`why_unsplit`].
 pub fn event_of_fields(fields: &Fields<'_>, seen: &Order) -> Result<Event, FeedFault>
     ensures value { (events : List Event) → StandsFor seen.now events → result ≡ next_event events fields.now }
     ensures lawful { (events : List Event) → StandsFor seen.now events → IfOk result (IsLawfulNext events) }
@@ -32,20 +32,6 @@ pub fn event_of_fields(fields: &Fields<'_>, seen: &Order) -> Result<Event, FeedF
     read
 }
 
-/// The fault of a line that can't be split into fields: `Kind` where it is empty, `Byte` where it has a
-/// byte outside 0x20 to 0x7E or a double quote. Every other line can be split.
-pub fn line_fault(line: &[u8]) -> Option<FeedFault>
-    ensures { result ≡ unsplit_fault line.now }
-{
-    if line.is_empty() {
-        Some(FeedFault::Kind)
-    } else if is_plain_line(line) {
-        None
-    } else {
-        Some(FeedFault::Byte)
-    }
-}
-
 /// The event of a line, given without its LF, after the events noted, or the first fault. An event that
 /// is answered is lawful next after the events noted. `NoMemory` has no cause in the line.
 pub fn read_event(alloc: Global, line: &[u8], seen: &Order) -> Result<Event, FeedFault>
@@ -53,11 +39,8 @@ pub fn read_event(alloc: Global, line: &[u8], seen: &Order) -> Result<Event, Fee
     ensures lawful { (events : List Event) → StandsFor seen.now events → IfOk result (IsLawfulNext events) }
     ensures in_range { IfOk result IsInRange }
 {
-    if line.is_empty() {
-        return Err(FeedFault::Kind);
-    }
-    if !is_plain_line(line) {
-        return Err(FeedFault::Byte);
+    if let Some(why) = why_unsplit(line) {
+        return Err(FeedFault::from(why));
     }
     let mut block = LineBlock::new(alloc);
     block.push(line)?;

@@ -1,7 +1,6 @@
 -- Lemmas on the lines that are read ahead and on the events taken from them.
-mod AheadLemmas
 pub mod FaultLemmas
 pub mod FeedLemmas
-mod GivenLemmas
+mod NextLemmas
+mod RunLemmas
 mod SayLemmas
-mod TakeLemmas

@@ -19,7 +19,9 @@ use Rattle.vx_reading.specs.declared.stop.FeedCause.TheVariants.{MissingEnd}
 use Rattle.vx_reading.specs.declared.stop.FeedStop.{FeedStop}
 use Rattle.vx_reading.specs.declared.stop.FeedStop.TheVariants.{BadLine, Device, NoMemory}
 use Rattle.vx_feed.specs.Feed.{reading_of, reading_on}
-use Rattle.vx_reading.specs.LinesAhead.{HasGiven, IsAhead, ahead_says, is_in_hand}
+use Rattle.vx_blocks.specs.SplitLines.{is_in_hand}
+use Rattle.vx_blocks.specs.Given.{HasGiven}
+use Rattle.vx_reading.specs.FeedAhead.{IsFeedAhead, ahead_says}
 use Rattle.vx_reading.specs.Stops.{IsCause, bad_cause}
 use Rattle.vx_reading.specs.WhatWasRead.{EventsRead, SayEvents}
 
@@ -44,6 +46,7 @@ pub record HasTakenUp {T : Type 0} (StandsFor : T → List Event → Type 0) (fe
 -- these events were read of what the feed held at first
 pub record IsReadFrom {T : Type 0} (held : Option (List ℕ)) (events : List Event) (feed : FeedReader T)
     (told : Slot → Told) : Type 0 where
+  pub slot : feed.ahead.lines.slot ≡ Feed
   pub lines : List (List ℕ)
   pub say : SayEvents lines events
   pub given : HasGiven lines held feed.ahead told
@@ -53,9 +56,13 @@ pub record IsReadFrom {T : Type 0} (held : Option (List ℕ)) (events : List Eve
 pub record IsAt {T : Type 0} (StandsFor : T → List Event → Type 0) (held : Option (List ℕ)) (whole : Option Reading)
     (events : List Event) (feed : FeedReader T) (told : Slot → Told) : Type 0 where
   pub taken_up : HasTakenUp StandsFor feed events
-  pub ahead : IsAhead feed.ahead
+  pub ahead : IsFeedAhead feed.ahead
   pub rest : ahead_says feed.ahead told events ≡ whole
   pub read : IsReadFrom held events feed told
+
+-- a reader of a feed of which no line was read
+abbrev pub IsAtStart : {T : Type 0} → (T → List Event → Type 0) → (Slot → Told) → FeedReader T → Type 0
+IsAtStart StandsFor told feed = IsAt StandsFor (told Feed).left (feed_told told) [] feed told
 
 -- what was read stays read
 abbrev pub StaysRead : {T : Type 0} → FeedReader T → (Slot → Told) → (Slot → Told) → Type 0

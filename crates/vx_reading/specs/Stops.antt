@@ -7,6 +7,8 @@ use Rattle.vx_reading.specs.declared.stop.FeedCause.{FeedCause}
 use Rattle.vx_reading.specs.declared.stop.FeedCause.TheVariants as cause
 use Rattle.vx_reading.specs.declared.stop.FeedStop.{FeedStop}
 use Rattle.vx_reading.specs.declared.stop.FeedStop.TheVariants.{BadLine, Device, NoMemory}
+use Rattle.vx_blocks.specs.declared.stop.ReadStop.{ReadStop}
+use Rattle.vx_blocks.specs.declared.stop.ReadStop.TheVariants as read
 use Rattle.vx_desk.specs.Calls.{Calls, read_call}
 
 -- want of memory is no cause
@@ -20,6 +22,16 @@ bad_cause (cause.Event fault) = of_fault fault
 bad_cause cause.TooLong = too_long
 bad_cause cause.NoEol = no_eol
 bad_cause cause.MissingEnd = missing_end
+
+-- why the feed is not read on, where its lines are not
+abbrev pub stop_of : ReadStop → FeedStop
+stop_of read.Device = Device
+stop_of read.NoMemory = NoMemory
+
+-- the stop is no fault of the device
+abbrev pub IsNoFault : FeedStop → Type 0
+IsNoFault Device = ⊥
+IsNoFault _ = Unit {0}
 
 -- the calls of which a stop says that one failed
 abbrev pub stop_calls : FeedStop → Option Calls

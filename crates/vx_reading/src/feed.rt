@@ -2,14 +2,16 @@
 
 ghost use Rattle.std.specs.Prelude.{◌≡◌};
 ghost use Rattle.vx_feed.specs.Order as order;
+ghost use Rattle.vx_reading.specs.FeedAhead.{SayEvent, cause_of_rest};
 
-use crate::ahead::LinesAhead;
 use crate::stop::{FeedCause, FeedStop};
 use crate::takes::TakesEvents;
 use std::alloc::Global;
+use vx_blocks::{Rest, SplitLines};
 use vx_desk::{Desk, Slot};
-use vx_feed::limits::LINES_MAX;
-use vx_feed::{Event, Order};
+use vx_feed::limits::{LINE_LEN_MAX, LINES_MAX};
+use vx_feed::{Event, FeedFault, Order, event_of_fields};
+use vx_fields::Fields;
 use vx_num::NoMemory;
 
 /// The feed, which is read from the slot Feed, with what takes up its events.
@@ -18,7 +20,7 @@ use vx_num::NoMemory;
 /// none is. So a feed that arrives bit by bit is taken up as it arrives.
 #[derive(Drop)]
 pub struct FeedReader<T: Drop> {
-    ahead: LinesAhead,
+    ahead: SplitLines,
     order: Order,
     taker: T,
     /// How many lines were taken up.
@@ -34,27 +36,54 @@ fn is_end(event: &Event) -> bool
     matches!(event, Event::End { .. })
 }
 
+/// The event of the line of this number, which was split into these fields.
+fn event_of(fields: &Fields<'_>, order: &Order, number: u64) -> Result<Event, FeedStop>
+    ensures { SayEvent fields.now order.now number result }
+{
+    match event_of_fields(fields, order) {
+        Ok(event) => Ok(event),
+        Err(FeedFault::NoMemory) => Err(FeedStop::NoMemory),
+        Err(fault) => Err(FeedStop::BadLine {
+            line: number,
+            cause: FeedCause::Event(fault),
+        }),
+    }
+}
+
+/// Why the line is bad that comes behind those that were split, if it is known to be.
+fn cause_of(rest: Rest) -> Option<FeedCause>
+    ensures { result ≡ cause_of_rest rest }
+{
+    match rest {
+        Rest::More | Rest::End => None,
+        Rest::Unsplit(why) => Some(FeedCause::Event(FeedFault::from(why))),
+        Rest::TooLong => Some(FeedCause::TooLong),
+        Rest::NoEol => Some(FeedCause::NoEol),
+    }
+}
+
 impl<T: TakesEvents> FeedReader<T> {
-    ghost use Rattle.std.specs.Prelude.{◌≡◌, [], true, IsTrue, IfErr, IfOk, List};
+    ghost use Rattle.std.specs.Prelude.{◌≡◌, ◌<◌, [], true, false, IsTrue, IfErr, IfOk, List, length};
     ghost use Rattle.vx_desk.specs.Told.{ChangesOnly, Told};
     ghost use Rattle.vx_desk.specs.declared.device.Slot.{Slot};
     ghost use Rattle.vx_feed.specs.declared.events.Event.{Event};
     ghost use Rattle.vx_feed.specs.Order.{IsLawfulNext};
     ghost use Rattle.vx_desk.specs.Calls.{IsStep};
-    ghost use Rattle.vx_reading.specs.Stops.{failed_in};
-    ghost use Rattle.vx_reading.specs.LinesAhead.{IsNoFault, ReadsOn};
-    ghost use Rattle.vx_reading.specs.FeedReading.{EndsAt, HasTakenUp, IsAt, IsReading, IsTakerOf, TakesAll, TakesOne};
-    ghost use Rattle.vx_reading.specs.FeedReading.{StaysRead, TakesUpTo, feed_told, is_waiting};
+    ghost use Rattle.vx_blocks.specs.SplitLines.{HasNext, IsSameText, has_line};
+    ghost use Rattle.vx_blocks.specs.Given.{LosesNothing};
+    ghost use Rattle.vx_reading.specs.Stops.{IsNoFault, failed_in};
+    ghost use Rattle.vx_reading.specs.FeedReading.{EndsAt, HasTakenUp, IsAtStart, IsReading, IsTakerOf, TakesAll};
+    ghost use Rattle.vx_reading.specs.FeedReading.{StaysRead, TakesOne, TakesUpTo, is_waiting};
     ghost use Rattle.vx_reading.specs.Takes.{TakesUp};
 
     /// The reader of a feed of which no line was read.
     #[tactic(auto, using(crate::proofs::FeedLemmas::starts))]
     pub fn new(alloc: Global, taker: T) -> Result<FeedReader<T>, NoMemory>
         requires { T.StandsFor taker [] }
-        ensures { (told : Slot → Told) → IfOk result (λ feed. IsAt T.StandsFor (told Slot.Feed).left (feed_told told) [] feed told) }
+        ensures { (told : Slot → Told) → IfOk result (IsAtStart T.StandsFor told) }
     {
         Ok(FeedReader {
-            ahead: LinesAhead::new(alloc)?,
+            ahead: SplitLines::new(alloc, Slot::Feed, LINE_LEN_MAX)?,
             order: Order::new(alloc)?,
             taker,
             count: 0,
@@ -95,30 +124,60 @@ impl<T: TakesEvents> FeedReader<T> {
         })
     }
 
+    /// Takes up the event of the next line, which was split.
+    fn take_line(&mut self) -> Result<Option<Event>, FeedStop>
+        requires reading { (told : Slot → Told) × IsReading T.StandsFor self.old told }
+        requires at_hand { self.old.ahead.taken < length self.old.ahead.table }
+        ensures takes { (told : Slot → Told) → TakesOne T.StandsFor self.old told self.new told result }
+        ensures no_fault { IfErr result IsNoFault }
+        ensures lines { self.new.ahead.lines ≡ self.old.ahead.lines }
+    {
+        let event = event_of(&self.ahead.fields(), &self.order, self.count + 1)?;
+        self.ahead.take();
+        self.push(event)?;
+        Ok(Some(event))
+    }
+
+    /// Ends the feed, or stops at its next line, where no line that was split is at hand.
+    fn take_rest(&self) -> Result<Option<Event>, FeedStop>
+        requires reading { (told : Slot → Told) × IsReading T.StandsFor self.now told }
+        requires next { HasNext self.now.ahead }
+        requires none { has_line self.now.ahead ≡ false }
+        ensures takes { (told : Slot → Told) → TakesOne T.StandsFor self.now told self.now told result }
+        ensures no_fault { IfErr result IsNoFault }
+    {
+        let number = self.count + 1;
+        match cause_of(self.ahead.rest()) {
+            None => self.end(number),
+            Some(cause) => Err(FeedStop::BadLine {
+                line: number,
+                cause,
+            }),
+        }
+    }
+
     /// Takes up one more event, or answers `None` at the end of the feed.
     pub fn read_next<D: Desk>(&mut self, desk: &mut D) -> Result<Option<Event>, FeedStop>
         requires reading { IsReading T.StandsFor self.old (D.told desk.old) }
         requires open { IsTrue (D.told desk.old Slot.Feed).is_open }
         ensures reads { TakesOne T.StandsFor self.old (D.told desk.old) self.new (D.told desk.new) result }
         ensures stays_read { StaysRead self.old (D.told desk.old) (D.told desk.new) }
-        ensures comes_on { ReadsOn self.old.ahead (D.told desk.old) self.new.ahead (D.told desk.new) }
+        ensures comes_on { LosesNothing self.old.ahead (D.told desk.old) self.new.ahead (D.told desk.new) }
+        ensures same { IsSameText self.old.ahead self.new.ahead }
         ensures in_hand { is_waiting self.old ≡ true → (desk.new ≡ desk.old) × IfErr result IsNoFault }
         ensures step { IsStep (failed_in result) (D.told desk.old) (D.told desk.new) }
         ensures others { ChangesOnly Slot.Feed (D.told desk.old) (D.told desk.new) }
     {
         self.ahead.read_on(desk)?;
-        let number = self.count + 1;
-        match self.ahead.take(&self.order, number)? {
-            None => self.end(number),
-            Some(event) => {
-                self.push(event)?;
-                Ok(Some(event))
-            }
+        if self.ahead.has_line() {
+            self.take_line()
+        } else {
+            self.take_rest()
         }
     }
 
     /// Takes up the events of the lines up to this number, or to the end of the feed.
-    #[tactic(auto, using(crate::proofs::GivenLemmas::comes_start))]
+    #[tactic(auto, using(vx_blocks::proofs::GivenLemmas::comes_start))]
     pub fn read_to<D: Desk>(&mut self, desk: &mut D, number: u64) -> Result<(), FeedStop>
         requires reading { IsReading T.StandsFor self.old (D.told desk.old) }
         requires open { IsTrue (D.told desk.old Slot.Feed).is_open }
@@ -138,7 +197,7 @@ impl<T: TakesEvents> FeedReader<T> {
     }
 
     /// Takes up the events of all lines that are left.
-    #[tactic(auto, using(crate::proofs::GivenLemmas::comes_start))]
+    #[tactic(auto, using(vx_blocks::proofs::GivenLemmas::comes_start))]
     pub fn read_to_end<D: Desk>(&mut self, desk: &mut D) -> Result<(), FeedStop>
         requires reading { IsReading T.StandsFor self.old (D.told desk.old) }
         requires open { IsTrue (D.told desk.old Slot.Feed).is_open }

@@ -2,7 +2,6 @@
 //! them up, and never a call of the device while a whole line is in hand.
 #![tactic(auto)]
 
-mod ahead;
 mod feed;
 mod stop;
 mod takes;

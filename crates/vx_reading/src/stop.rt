@@ -1,5 +1,6 @@
 //! Why a feed is not read on.
 
+use vx_blocks::ReadStop;
 use vx_feed::FeedFault;
 use vx_num::NoMemory;
 
@@ -36,5 +37,19 @@ impl From<NoMemory> for FeedStop {
 
     fn from(_cause: NoMemory) -> FeedStop {
         FeedStop::NoMemory
+    }
+}
+
+impl From<ReadStop> for FeedStop {
+    ghost use Rattle.std.specs.Prelude.{◌≡◌};
+    ghost use Rattle.vx_reading.specs.Stops.{stop_of};
+
+    ghost from_gives = { λ cause stop. stop ≡ stop_of cause };
+
+    fn from(cause: ReadStop) -> FeedStop {
+        match cause {
+            ReadStop::Device => FeedStop::Device,
+            ReadStop::NoMemory => FeedStop::NoMemory,
+        }
     }
 }

@@ -8,8 +8,8 @@ use vx_cli::{Exit, FeedCause};
 use vx_desk::Slot;
 use vx_feed::FeedFault;
 
-// The line of a tick and the bad line after it, about the end of the first block of 2,048 lines.
-const PLACES: [(u64, u64); 4] = [(2046, 2047), (2047, 2048), (2048, 2049), (2049, 2050)];
+// The line of a tick and the bad line after it, about the end of the first block: 65,536 bytes hold 3,443 of the lines.
+const PLACES: [(u64, u64); 4] = [(3442, 3443), (3443, 3444), (3444, 3445), (3445, 3446)];
 
 // The pieces of a bad line, and what is wrong with it: some of it is found while lines are read ahead, some
 // only when its turn comes.

@@ -26,7 +26,8 @@ impl Desk for Watched {
 
     fn open(&mut self, slot: Slot, name: &str) -> Result<(), Failed>
         requires closed { (told_memory self.old.desk slot).is_open ≡ false }
-        ensures opens { Opens slot name.now (held_by self.old.desk name.now) (told_memory self.old.desk slot) (told_memory self.new.desk slot) result }
+        ensures opens { Opens slot name.now (held_by self.old.desk name.now)
+            (told_memory self.old.desk slot) (told_memory self.new.desk slot) result }
         ensures others { ChangesOnly slot (told_memory self.old.desk) (told_memory self.new.desk) }
         ensures names { held_by self.new.desk ≡ held_by self.old.desk }
     {

@@ -1,6 +1,7 @@
 //! Why a line is no position.
 
 use thiserror::Error;
+use vx_fields::Unsplit;
 use vx_num::NoMemory;
 
 /// Why a line is no position. Of several causes the first that holds, in this order, is answered.
@@ -28,5 +29,19 @@ impl From<NoMemory> for PositionFault {
 
     fn from(_refused: NoMemory) -> PositionFault {
         PositionFault::NoMemory
+    }
+}
+
+impl From<Unsplit> for PositionFault {
+    ghost use Rattle.std.specs.Prelude.{◌≡◌};
+    ghost use Rattle.vx_settle.specs.Form.{fault_of_unsplit};
+
+    ghost from_gives = { λ cause fault. fault ≡ fault_of_unsplit cause };
+
+    fn from(cause: Unsplit) -> PositionFault {
+        match cause {
+            Unsplit::Empty => PositionFault::Fields,
+            Unsplit::Byte => PositionFault::Byte,
+        }
     }
 }

@@ -48,7 +48,7 @@ fn read_last(text: &[u8]) -> Option<u32>
 
 /// The position that a line's fields say, or the first fault.
 ///
-/// Takes no memory. For a line that can't be split ask [`line_fault`](crate::line_fault) first.
+/// Takes no memory. A line has fields where it can be split; why it can't be is a fault by `PositionFault::from`.
 ///
 /// # Errors
 ///

@@ -12,7 +12,7 @@ mod settlement;
 pub use fault::PositionFault;
 pub use form::position_of_fields;
 pub use position::{Contract, Position};
-pub use read::{line_fault, read_position};
+pub use read::read_position;
 pub use settlement::amount;
 
 #[cfg(test)]

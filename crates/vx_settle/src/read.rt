@@ -2,33 +2,24 @@
 
 ghost use Rattle.std.specs.Prelude.{◌≡◌, ◌⊎◌, [], ◌∷◌, None, true, IfOk};
 ghost use Rattle.vx_fields.specs.Lines.{fields_of_line, is_plain_line};
-ghost use Rattle.vx_settle.specs.Form.{fault_of_unsplit, position_of_line, unsplit_fault};
+ghost use Rattle.vx_settle.specs.Form.{position_of_line, unsplit_fault};
 ghost use Rattle.vx_settle.specs.Position.{IsPositionInRange};
 
 use crate::fault::PositionFault;
 use crate::form::position_of_fields;
 use crate::position::Position;
 use std::alloc::Global;
-use vx_fields::{FieldTable, LineBlock, Unsplit, why_unsplit};
+use vx_fields::{FieldTable, LineBlock, why_unsplit};
 use vx_num::NoMemory;
 
-fn fault_of_unsplit(cause: Unsplit) -> PositionFault
-    ensures { result ≡ fault_of_unsplit cause }
-{
-    match cause {
-        Unsplit::Empty => PositionFault::Fields,
-        Unsplit::Byte => PositionFault::Byte,
-    }
-}
-
-/// The fault of a line that can't be split into fields: `Fields` where it is empty, `Byte` where it has
-/// a byte outside 0x20 to 0x7E or a double quote. Every other line can be split.
-pub fn line_fault(line: &[u8]) -> Option<PositionFault>
+// The fault of a line that can't be split into fields: `Fields` where it is empty, `Byte` where it has
+// a byte outside 0x20 to 0x7E or a double quote. Every other line can be split.
+fn line_fault(line: &[u8]) -> Option<PositionFault>
     ensures fault { result ≡ unsplit_fault line.now }
     ensures plain { result ≡ None → is_plain_line line.now ≡ true }
 {
     match why_unsplit(line) {
-        Some(cause) => Some(fault_of_unsplit(cause)),
+        Some(cause) => Some(PositionFault::from(cause)),
         None => None,
     }
 }

@@ -3,7 +3,7 @@ use Rattle.vx_reading.specs.FeedReading.{feed_told}
 use Rattle.vx_drivers.specs.declared.exit.Exit.TheVariants.{NoMemory}
 use Rattle.vx_drivers.specs.Held.{held_by}
 use Rattle.vx_drivers.specs.PositionSteps.{positions_told}
-use Rattle.vx_drivers.proofs.GivenLemmas.{memory_not_side}
+use Rattle.vx_drivers.proofs.ExitLemmas.{memory_not_side}
 use Rattle.vx_drivers.proofs.PositionRunLemmas.{nothing_sent}
 use Rattle.vx_cli.specs.SettleRuns.{settle_rules}
 use Rattle.vx_cli.proofs.settle.settle_open.Goals as goal

@@ -13,8 +13,7 @@ use Rattle.vx_drivers.specs.PositionExits.{IsPositionExit}
 use Rattle.vx_drivers.specs.PositionSteps.{HasEndedPositions}
 use Rattle.vx_drivers.specs.Sending.{Sent, Text}
 use Rattle.vx_drivers.specs.TickSteps.{CutsBoth}
-use Rattle.vx_drivers.proofs.ExitLemmas.{certs_not_feed, out_not_feed, stop_named}
-use Rattle.vx_drivers.proofs.GivenLemmas.{memory_not_side}
+use Rattle.vx_drivers.proofs.ExitLemmas.{certs_not_feed, memory_not_side, out_not_feed, stop_named}
 use Rattle.vx_drivers.proofs.PositionRunLemmas.{feed_stops, nothing_sent, opening_cut, opening_sent, stop_exit}
 use Rattle.vx_drivers.proofs.position_run.open_run.Goals as goal
 

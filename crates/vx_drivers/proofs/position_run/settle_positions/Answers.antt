@@ -6,7 +6,8 @@ use Rattle.vx_drivers.specs.declared.exit.Exit.TheVariants.{NoMemory}
 use Rattle.vx_drivers.specs.Exits.{exit_calls}
 use Rattle.vx_drivers.specs.Held.{held_by}
 use Rattle.vx_drivers.specs.PositionSteps.{positions_told}
-use Rattle.vx_drivers.proofs.GivenLemmas.{memory_not_side}
+use Rattle.vx_drivers.proofs.ExitLemmas.{memory_not_side}
+use Rattle.vx_drivers.proofs.PositionLinesLemmas.{fresh_lines}
 use Rattle.vx_drivers.proofs.PositionRunLemmas.{nothing_sent, starts_open}
 use Rattle.vx_drivers.proofs.position_run.settle_positions.Goals as goal
 
@@ -18,6 +19,9 @@ returns-in-Err-clause-ends g c =
 pub returns-in-Err-open_run-clause-ends : goal.returns-in-Err-open_run-clause-ends
 returns-in-Err-open_run-clause-ends g c = c.in-Err-open_run.ensures.opens (positions_told (g.D.Desk.told c.args.desk.now))
     (ap (λ (t : Told). t.left) (sym c.in-Err-open_run.ensures.side))
+
+pub settle_all-requires-clause-lines : goal.settle_all-requires-clause-lines
+settle_all-requires-clause-lines g c = fresh_lines c.in-Ok.positions c.in-Ok.ensures
 
 pub settle_all-requires-clause-may : goal.settle_all-requires-clause-may
 settle_all-requires-clause-may g c =

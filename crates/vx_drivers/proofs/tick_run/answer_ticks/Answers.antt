@@ -1,4 +1,3 @@
-use Rattle.std.proofs.Common.{refl}
 use Rattle.vx_desk.specs.declared.device.Slot.TheVariants.{Feed}
 use Rattle.vx_reading.specs.FeedReading.{feed_told}
 use Rattle.vx_desk.proofs.CallLemmas.{step_after}

@@ -13,8 +13,10 @@ use Rattle.vx_drivers.proofs.check_run.CheckRun.answer_all.Given as goal
 abbrev pub invariant-lines : goal.invariant-lines
 invariant-lines g l = record {
   way : (held : Held) (feed : Option Reading) (certs : Option TextLines) (before : Told)
-      → IsUnderWay g.C.AnswersCertificates.rules g.B.TakesEvents.StandsFor held feed certs before l.initial.self l.initial.certs (g.D.Desk.told l.initial.desk) (allowed (answered_lines l.initial.self) l.initial.certs (g.D.Desk.told l.initial.desk))
-      → IsUnderWay g.C.AnswersCertificates.rules g.B.TakesEvents.StandsFor held feed certs before l.self l.certs (g.D.Desk.told l.desk) (allowed (answered_lines l.self) l.certs (g.D.Desk.told l.desk));
+      → IsUnderWay g.C.AnswersCertificates.rules g.B.TakesEvents.StandsFor held feed certs before l.initial.self l.initial.certs
+      (g.D.Desk.told l.initial.desk) (allowed (answered_lines l.initial.self) l.initial.certs (g.D.Desk.told l.initial.desk))
+      → IsUnderWay g.C.AnswersCertificates.rules g.B.TakesEvents.StandsFor held feed certs before l.self l.certs
+      (g.D.Desk.told l.desk) (allowed (answered_lines l.self) l.certs (g.D.Desk.told l.desk));
   some : MayGoOn g.C.AnswersCertificates.rules g.B.TakesEvents.StandsFor l.self l.certs (g.D.Desk.told l.desk);
   reader : IsReader Side CERT_LINE_LEN_MAX l.certs;
   few : answered_lines l.self ≤ CERT_LINES_MAX;

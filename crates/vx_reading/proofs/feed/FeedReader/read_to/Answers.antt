@@ -1,13 +1,7 @@
-use Rattle.std.proofs.Common.{◌≡◌, ◌∙◌, sym, subst, ℕ, ◌+◌, ◌≤◌, List, [], ◌∷◌, ◌++◌, length, Option, Some, None, IsTrue, arith}
-use Rattle.std.proofs.lemmas.List.{length_push}
-use Rattle.vx_desk.specs.declared.device.Slot.TheVariants.{Feed}
-use Rattle.vx_feed.specs.declared.events.Event.{Event}
-use Rattle.vx_feed.specs.Feed.{Reading}
+use Rattle.std.proofs.Common.{◌≡◌, ◌≤◌, length, None, arith}
 use Rattle.vx_reading.specs.Stops.{stop_calls}
-use Rattle.vx_reading.specs.FeedReading.{IsAt}
-use Rattle.vx_reading.specs.LinesAhead.{still_to_come}
 use Rattle.vx_desk.proofs.CallLemmas.{step_after}
-use Rattle.vx_reading.proofs.GivenLemmas.{comes_twice}
+use Rattle.vx_reading.proofs.RunLemmas.{one_more, still_read}
 use Rattle.vx_reading.proofs.FeedLemmas.{stays_read, found_is, reads_on, read_all, read_so_many}
 use Rattle.vx_reading.proofs.feed.FeedReader.read_to.Goals as goal
 
@@ -34,25 +28,10 @@ returns-in-Ok-None-clause-reads g c = λ held whole events start within.
 
 pub loop-preserved : goal.loop-preserved
 loop-preserved g c =
-    let then = λ (held : Option (List ℕ)) (whole : Option Reading) (now : List Event) (at : IsAt g.T.TakesEvents.StandsFor held whole now c.loop.self (g.D.Desk.told c.loop.desk)).
-    found_is g.T.TakesEvents.StandsFor held whole now c.read_next.new.self (g.D.Desk.told c.read_next.new.desk) c.in-Ok-Some.field-0 (Some c.in-Ok-Some._event)
-    c.in-Ok-Some.field-0-is (c.in-Ok-Some.ensures.reads held whole now at) in
-    let some = c.loop.invariant.reading in
-    let further = then some.0 some.1 some.2 some.3 in
-    let before : c.loop.self.count ≡ length some.2 = some.3.taken_up.count in
-    let after : c.read_next.new.self.count ≡ length (some.2 ++ c.in-Ok-Some._event ∷ []) = further.taken_up.count in
-    let size : length (some.2 ++ c.in-Ok-Some._event ∷ []) ≡ length some.2 + 1 = length_push some.2 c.in-Ok-Some._event in
-    record {
-      at = λ held whole events start. let now = c.loop.invariant.at held whole events start in (now.0 ++ c.in-Ok-Some._event ∷ [], then held whole now.0 now.1);
-      reading = (some.0, some.1, some.2 ++ c.in-Ok-Some._event ∷ [], further);
-      count = omega (arith, before, after, size, c.loop.invariant.count);
-      is_open = subst IsTrue (sym (c.in-Ok-Some.ensures.step.slots.is_open Feed)) c.loop.invariant.is_open;
-      step = step_after None (g.D.Desk.told c.args.desk.now) (g.D.Desk.told c.loop.desk) (g.D.Desk.told c.read_next.new.desk) c.loop.invariant.step
-          (record { failures = c.in-Ok-Some.ensures.step.failures; slots = c.in-Ok-Some.ensures.step.slots });
-      others = λ slot other. c.in-Ok-Some.ensures.others slot other ∙ c.loop.invariant.others slot other;
-      comes_on = comes_twice (still_to_come c.args.self.now.ahead (g.D.Desk.told c.args.desk.now)) (still_to_come c.loop.self.ahead (g.D.Desk.told c.loop.desk))
-          (still_to_come c.read_next.new.self.ahead (g.D.Desk.told c.read_next.new.desk)) c.loop.invariant.comes_on c.in-Ok-Some.ensures.comes_on;
-    }
+    let told = g.D.Desk.told in
+    one_more g.T.TakesEvents.StandsFor c.args.self.now (told c.args.desk.now) c.loop.self (told c.loop.desk) c.read_next.new.self (told c.read_next.new.desk) c.loop.counter c.in-Ok-Some._event c.in-Ok-Some.field-0
+    c.loop.invariant c.in-Ok-Some.field-0-is c.in-Ok-Some.ensures.reads (record { failures = c.in-Ok-Some.ensures.step.failures; slots = c.in-Ok-Some.ensures.step.slots }) c.in-Ok-Some.ensures.others
+    c.in-Ok-Some.ensures.comes_on c.in-Ok-Some.ensures.same
 
 pub returns-clause-reads : goal.returns-clause-reads
 returns-clause-reads g c = λ held whole events start within.
@@ -66,16 +45,16 @@ returns-clause-reads g c = λ held whole events start within.
 
 pub returns-in-Ok-None-clause-stays_read : goal.returns-in-Ok-None-clause-stays_read
 returns-in-Ok-None-clause-stays_read g c =
-    stays_read c.args.self.now c.read_next.new.self.ahead (g.D.Desk.told c.args.desk.now) (g.D.Desk.told c.read_next.new.desk)
-    (comes_twice (still_to_come c.args.self.now.ahead (g.D.Desk.told c.args.desk.now)) (still_to_come c.loop.self.ahead (g.D.Desk.told c.loop.desk))
-    (still_to_come c.read_next.new.self.ahead (g.D.Desk.told c.read_next.new.desk)) c.loop.invariant.comes_on c.in-Ok-None.ensures.comes_on)
+    let told = g.D.Desk.told in
+    still_read g.T.TakesEvents.StandsFor c.args.self.now (told c.args.desk.now) c.loop.self (told c.loop.desk) c.read_next.new.self (told c.read_next.new.desk) c.loop.counter
+    c.loop.invariant c.in-Ok-None.ensures.comes_on c.in-Ok-None.ensures.same
 
 pub returns-in-Err-clause-stays_read : goal.returns-in-Err-clause-stays_read
 returns-in-Err-clause-stays_read g c =
-    stays_read c.args.self.now c.read_next.new.self.ahead (g.D.Desk.told c.args.desk.now) (g.D.Desk.told c.read_next.new.desk)
-    (comes_twice (still_to_come c.args.self.now.ahead (g.D.Desk.told c.args.desk.now)) (still_to_come c.loop.self.ahead (g.D.Desk.told c.loop.desk))
-    (still_to_come c.read_next.new.self.ahead (g.D.Desk.told c.read_next.new.desk)) c.loop.invariant.comes_on c.in-Err.ensures.comes_on)
+    let told = g.D.Desk.told in
+    still_read g.T.TakesEvents.StandsFor c.args.self.now (told c.args.desk.now) c.loop.self (told c.loop.desk) c.read_next.new.self (told c.read_next.new.desk) c.loop.counter
+    c.loop.invariant c.in-Err.ensures.comes_on c.in-Err.ensures.same
 
 pub returns-clause-stays_read : goal.returns-clause-stays_read
 returns-clause-stays_read g c =
-    stays_read c.args.self.now c.loop.self.ahead (g.D.Desk.told c.args.desk.now) (g.D.Desk.told c.loop.desk) c.loop.invariant.comes_on
+    stays_read c.args.self.now c.loop.self.ahead (g.D.Desk.told c.args.desk.now) (g.D.Desk.told c.loop.desk) c.loop.invariant.same c.loop.invariant.comes_on
