@@ -7,3 +7,5 @@ pub mod OpeningPlaces
 -- tests and levels
 pub mod FailingLemmas
 pub mod LevelLemmas
+-- what a tick comes to
+pub mod TickOutcomes

@@ -11,3 +11,4 @@ pub mod Means
 pub mod Answers
 -- what holds of them
 pub mod Laws
+pub mod TickOutcomes

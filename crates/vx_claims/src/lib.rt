@@ -12,5 +12,5 @@ pub mod limits;
 pub use acceptance::Test;
 pub use laws::{
     accepted_has_no_failing_test, accepted_level_means, failing_test_is_one, listed_rows_rise,
-    stated_ends_are_decided,
+    stated_ends_are_decided, tick_is_answered,
 };

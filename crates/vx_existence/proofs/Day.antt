@@ -47,8 +47,8 @@ use Rattle.vx_replay.specs.declared.answer.TickAnswer.{TickAnswer}
 use Rattle.vx_replay.specs.declared.answer.TickAnswer.TheVariants.{Published}
 use Rattle.vx_replay.specs.Ticks.{IsAnswerFor}
 use Rattle.vx_replay.proofs.LawfulTicks.{tick_answer_is_lawful}
-use Rattle.vx_laws.specs.FeedDays.{september_17, standard, half_past_eight, quote_at}
-use Rattle.vx_laws.specs.TermDays.{weekly_24}
+use Rattle.vx_days.specs.FeedDays.{september_17, standard, half_past_eight, quote_at}
+use Rattle.vx_days.specs.TermDays.{weekly_24}
 use Rattle.vx_existence.specs.Day.{series_of, quotes_of, two_terms, terms_of_one, ends_at, run_of, near_run, next_run, day_certificate, DayIsLawful, DayIsAnswered, DayIsAccepted}
 use Rattle.vx_existence.proofs.Exponentials.{first_values, terms_of}
 use Rattle.vx_existence.proofs.Decisions.{not_straddled}

@@ -18,7 +18,7 @@ use Rattle.vx_drivers.specs.Answers.{said_no, said_yes}
 use Rattle.vx_drivers.specs.CertificateRun.{certificates_of}
 use Rattle.vx_drivers.proofs.RunIsThere.{run_is_there as certificate_run_is_there}
 use Rattle.vx_cli.specs.CheckRuns.{check_rules, test_word, yes_words}
-use Rattle.vx_laws.proofs.ReadingLemmas.{prefix_is_lawful}
+use Rattle.vx_feed.proofs.ReadingLemmas.{prefix_is_lawful}
 use Rattle.vx_whole.specs.Runs.{CheckIsThere}
 use Rattle.vx_whole.specs.Verdicts.{EveryCertificateHasVerdict}
 use Rattle.vx_whole.proofs.Readings.{line_is_read}

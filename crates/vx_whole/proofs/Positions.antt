@@ -13,7 +13,7 @@ use Rattle.vx_drivers.specs.PositionRun.{positions_of}
 use Rattle.vx_drivers.proofs.PositionRunIsThere.{run_is_there as position_run_is_there}
 use Rattle.vx_cli.specs.SettleRuns.{AnsweredOpening, IsAnsweredOpening, LineComesTo}
 use Rattle.vx_cli.specs.SettleText.{Settled, figure_of}
-use Rattle.vx_laws.proofs.ReadingLemmas.{prefix_is_lawful}
+use Rattle.vx_feed.proofs.ReadingLemmas.{prefix_is_lawful}
 use Rattle.vx_existence.proofs.Openings.{opening_has_answer}
 use Rattle.vx_whole.specs.Runs.{SettleIsThere, amounts_alone}
 

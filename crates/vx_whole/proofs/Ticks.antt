@@ -10,7 +10,7 @@ use Rattle.vx_claims.specs.Seen.{event_at}
 use Rattle.vx_drivers.proofs.TickLawLemmas.{run_is_there as tick_run_is_there}
 use Rattle.vx_cli.specs.ReplayRuns.{GivesAnswer}
 use Rattle.vx_cli.specs.ReplayText.{Answered}
-use Rattle.vx_laws.proofs.ReadingLemmas.{prefix_is_lawful}
+use Rattle.vx_feed.proofs.ReadingLemmas.{prefix_is_lawful}
 use Rattle.vx_existence.proofs.Ticks.{every_tick_has_lawful_answer}
 use Rattle.vx_whole.specs.Runs.{ReplayIsThere, answers_alone}
 use Rattle.vx_whole.proofs.Places.{some_tick}

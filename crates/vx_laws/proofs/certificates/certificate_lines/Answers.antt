@@ -1,5 +1,0 @@
-use Rattle.vx_laws.proofs.CertificateLineProofs.{level_line_is_read, single_line_is_read}
-use Rattle.vx_laws.proofs.certificates.certificate_lines.Goals as goal
-
-pub returns : goal.returns
-returns c = record { level = level_line_is_read; single = single_line_is_read }

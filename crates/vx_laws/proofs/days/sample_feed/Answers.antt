@@ -1,6 +1,0 @@
--- Each part of the law is a lemma of its own.
-use Rattle.vx_laws.proofs.FeedDayProofs.{sample_is_lawful, sample_shows_rows}
-use Rattle.vx_laws.proofs.days.sample_feed.Goals as goal
-
-pub returns : goal.returns
-returns c = record { lawful = sample_is_lawful; rows = sample_shows_rows }
