@@ -7,5 +7,6 @@ pub mod WrittenData
 pub mod OneReading
 pub mod ReadRanges
 pub mod WrittenBack
+pub mod WrittenRead
 pub mod WrittenLine
 pub mod WrittenLength

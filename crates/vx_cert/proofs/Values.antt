@@ -1,11 +1,13 @@
 -- Lists of values, and the values of JSON that hold them.
-use Rattle.std.proofs.Common.{◌≡◌, ℕ, ◌+◌, ◌<◌, ◌≤◌, Bool, List, [], ◌∷◌, ◌++◌, map, take, get_or, length, ◌&&◌, ◌||◌, refl, sym, ap, subst, ◌∙◌}
-use Rattle.std.proofs.lemmas.List.{take_all, take_more, map-append}
+use Rattle.std.proofs.Common.{◌≡◌, ℕ, suc, ◌+◌, ◌<◌, ◌≤◌, Bool, List, [], ◌∷◌, map, drop, get_or, length, ◌&&◌, ◌||◌, refl, sym, ap, subst}
+use Rattle.std.proofs.lemmas.List.{drop_all, drop_more}
 use Rattle.std.specs.Prelude.{String, string_bytes}
 use Rattle.std.specs.List.{list_all, list_any}
 use Rattle.std.specs.Map.{keys_of as entry_keys}
 use Rattle.std.specs.declared.alloc.Global.{Global}
+use Rattle.serde.specs.Event.{Log, Logs, seq_ends}
 use Rattle.serde_json.specs.Data.{Data}
+use Rattle.serde_json.specs.Events.{items_len, SendsValue, SendsItems}
 use Rattle.serde_json.specs.View.{items_of, members_view}
 use Rattle.serde_json.specs.declared.value.Value.{Value}
 use Rattle.vx_cert.specs.Form.{list_of_items, keys_of}
@@ -25,16 +27,21 @@ pub list_all_keys : (test : List ℕ → Bool) (members : List (String Global ×
 list_all_keys test [] = refl
 list_all_keys test (m ∷ ms) = ap (λ b. test (string_bytes m.0) && b) (list_all_keys test ms)
 
--- one more value was written, for one more element
-pub written_more : {A B C : Type 0} (f : A → C) (g : B → C) (old new : List A) (v : A) (xs ys : List B) (i : ℕ) (d : B) → xs ≡ ys → i < length xs → map f new ≡ map f old ++ f v ∷ [] → f v ≡ g (get_or xs i d)
-    → map f old ≡ map g (take i ys) → map f new ≡ map g (take (i + 1) ys)
-written_more {A} {B} f g old new v xs ys i d same h pushed is before =
-    let more : map g (take (i + 1) xs) ≡ map g (take i xs) ++ g (get_or xs i d) ∷ [] = ap (map g) (take_more xs i d h) ∙ map-append g (take i xs) (get_or xs i d ∷ []) in
-    subst (λ (zs : List B). map f old ≡ map g (take i zs) → map f new ≡ map g (take (i + 1) zs)) same
-    (λ front. rw (pushed, is, front) (sym more)) before
+-- a list of values sends as many as it was made of
+pub mapped_len : {A : Type 0} (f : A → Data) (xs : List A) → items_len (items_of (map f xs)) ≡ length xs
+mapped_len f [] = refl
+mapped_len f (x ∷ xs) = ap suc (mapped_len f xs)
 
--- all of them were
-pub written_all : {B C : Type 0} (g : B → C) (done : List C) (xs ys : List B) (i : ℕ) → xs ≡ ys → length xs ≤ i → done ≡ map g (take i ys) → done ≡ map g ys
-written_all {B} g done xs ys i same h before =
-    let most : length ys ≤ i = subst (λ (zs : List B). length zs ≤ i) same h in
-    before ∙ ap (map g) (take_all i ys most)
+-- what ends a list well from an element on ends it well from the next one on
+pub sent_more : {A : Type 0} (f : A → Data) (xs ys : List A) (i : ℕ) (d : A) (mid next : Log) (Well : Log → Type 0) → xs ≡ ys → i < length xs → SendsValue (f (get_or xs i d)) mid next
+    → ((end : Log) → SendsItems (items_of (map f (drop i ys))) mid end → Well end) → (end : Log) → SendsItems (items_of (map f (drop (i + 1) ys))) next end → Well end
+sent_more {A} f xs ys i d mid next Well same h sent =
+    subst (λ (zs : List A). ((end : Log) → SendsItems (items_of (map f (drop i zs))) mid end → Well end) → (end : Log) → SendsItems (items_of (map f (drop (i + 1) zs))) next end → Well end) same
+    (λ before end rest. before end (subst (λ (zs : List A). SendsItems (items_of (map f zs)) mid end) (sym (drop_more xs i d h)) (next, sent, rest)))
+
+-- behind the last element the mark of the end does so
+pub sent_all : {A : Type 0} (f : A → Data) (xs ys : List A) (i : ℕ) (mid end : Log) (Well : Log → Type 0) → xs ≡ ys → length xs ≤ i → ((end : Log) → SendsItems (items_of (map f (drop i ys))) mid end → Well end)
+    → Logs mid end seq_ends → Well end
+sent_all {A} f xs ys i mid end Well same h before ended =
+    let most : length ys ≤ i = subst (λ (zs : List A). length zs ≤ i) same h in
+    before end (subst (λ (zs : List A). SendsItems (items_of (map f zs)) mid end) (sym (drop_all i ys most)) ended)

@@ -1,12 +1,10 @@
--- The value of JSON that a certificate is written as has no float, and is not deep; so its text is read
--- as that value.
-use Rattle.std.proofs.Common.{◌≡◌, ℕ, false, List, [], ◌∷◌, map, ℤ, pos, negsuc, ◌≤◌, OnOk, Result, Ok, Err, refl, sym, subst, arith}
-use Rattle.serde_json.specs.Data.{Data, depth, items_depth}
+-- The value of JSON that a certificate is written as has no float, and is not deep.
+use Rattle.std.proofs.Common.{◌≡◌, ℕ, false, List, [], ◌∷◌, map, ℤ, pos, negsuc, ◌≤◌, OnOk, Result, Ok, Err, refl, arith}
+use Rattle.serde_json.specs.Data.{depth, items_depth}
 use Rattle.serde_json.specs.Read.{max_depth}
 use Rattle.serde_json.specs.Find.{of_integer, is_float}
 use Rattle.serde_json.specs.View.{items_of}
-use Rattle.serde_json.specs.Written.{has_float, items_have_float, compact_text}
-use Rattle.vx_cert.specs.Reading.{IsValueOf}
+use Rattle.serde_json.specs.Written.{has_float, items_have_float}
 use Rattle.vx_cert.specs.declared.certificate.CertTerm.{CertTerm}
 use Rattle.vx_cert.specs.declared.certificate.CertBody.{CertBody}
 use Rattle.vx_cert.specs.declared.certificate.CertBody.TheVariants.{K0, Single, Index, Soq}
@@ -60,14 +58,11 @@ kind_depth c (Single term figure) = let inner = term_depth term in grind arith
 kind_depth c (Index days near next figure) = let first = term_depth near in let second = term_depth next in grind arith
 kind_depth c (Soq term figure) = let inner = term_depth term in grind arith
 
-certificate_depth : (c : Certificate) → depth (certificate_data c) ≤ max_depth
+-- far less deep than a reading takes
+pub certificate_depth : (c : Certificate) → depth (certificate_data c) ≤ max_depth
 certificate_depth c = let most = kind_depth c c.body in omega arith
 
--- what is read of the text of a value that is a certificate's
-pub valued : (c : Certificate) (bytes : List ℕ) (d : Data) → d ≡ certificate_data c → bytes ≡ compact_text d → (depth d ≤ max_depth → IsValueOf bytes d) → IsValueOf (compact_text (certificate_data c)) (certificate_data c)
-valued c bytes d e t h =
-    subst (λ x. IsValueOf (compact_text x) x) e (subst (λ b. IsValueOf b d) t (h (subst (λ x. depth x ≤ max_depth) (sym e) (certificate_depth c))))
-
+-- where a result is Ok, what holds anyway
 pub on_ok : {T E X : Type 0} (r : Result T E) → X → OnOk r X
 on_ok (Ok t) x = x
 on_ok (Err e) x = tt

@@ -10,9 +10,9 @@ pub mod laws;
 pub mod limits;
 mod read;
 pub mod rows;
+mod send;
 #[cfg(test)]
 mod tests;
-mod value;
 mod write;
 #[cfg(test)]
 mod write_tests;

@@ -1,23 +1,21 @@
-//! Writing a certificate as a line of JSON.
+//! Writing a certificate as a line of JSON: it sends its fields to `serde`, each key in its order, and
+//! `serde_json` makes the line of them, with no tree of values between.
 
-ghost use Rattle.std.specs.Prelude.{◌≡◌, ◌≤◌, [], ◌∷◌, ◌++◌, false, IfOk, length, Ok, OnErr, OnOk};
+ghost use Rattle.std.specs.Prelude.{◌≡◌, ◌≤◌, [], ◌∷◌, ◌++◌, IfOk, length, Ok, OnErr, OnOk};
 ghost use Rattle.std.specs.List.{All};
-ghost use Rattle.serde_json.specs.Data.{depth};
-ghost use Rattle.serde_json.specs.Read.{max_depth};
-ghost use Rattle.serde_json.specs.View.{view};
-ghost use Rattle.serde_json.specs.Written.{compact_text, has_float};
-ghost use Rattle.vx_clock.specs.declared.limits.TheConstants.{MINUTE_MAX};
+ghost use Rattle.serde_json.specs.Events.{SendsValue};
 ghost use Rattle.vx_cert.specs.declared.certificate.CertBody.TheVariants.{K0};
 ghost use Rattle.vx_cert.specs.declared.limits.TheConstants.{WRITTEN_LEN_MAX};
 ghost use Rattle.vx_cert.specs.Ranges.{IsCertificateInRange, IsExpiryInRange, IsTermInRange};
 ghost use Rattle.vx_cert.specs.ReadBack.{IsReadBack, IsTermReadBack};
 ghost use Rattle.vx_cert.specs.Reading.{IsValueOf, level_body, ReadsAs};
-ghost use Rattle.vx_cert.specs.Written.{certificate_data, certificate_line, certificate_text, data_by_kind, level_data, one_term_data, index_data, index_of_data, term_data};
+ghost use Rattle.vx_cert.specs.Sent.{SendsCertificate};
+ghost use Rattle.vx_cert.specs.Written.{certificate_data, certificate_line, certificate_text, data_by_kind};
+ghost use Rattle.vx_cert.specs.Written.{index_data, level_data, one_term_data, term_data};
 
 use crate::certificate::{CertBody, CertFigure, CertTerm, Certificate, Pair};
-use crate::value;
-use crate::value::field;
-use serde_json::{Map, Value};
+use crate::send;
+use serde::{Described, Serialize, Serializer};
 use std::alloc::Global;
 use vx_clock::Expiry;
 use vx_num::NoMemory;
@@ -51,19 +49,22 @@ fn line_of(alloc: Global, c: &Certificate) -> Result<Vec<u8>, NoMemory>
     ensures value { OnOk result (IsValueOf (certificate_line c.now) (certificate_data c.now)) }
     ensures read_back { OnOk result (IsReadBack c.now) }
 {
-    let value = certificate(alloc, c)?;
-    let text = text_of(alloc, &value)?;
+    let text = text_of(alloc, c)?;
     ended(text)
 }
 
-/// The text of a value of JSON. `serde_json` proves that these bytes are UTF-8, so that nothing tests it here.
-fn text_of(alloc: Global, value: &Value) -> Result<Vec<u8>, NoMemory>
-    requires { has_float (view value.now) ≡ false }
-    ensures text { IfOk result (λ text. text.items ≡ compact_text (view value.now)) }
-    ensures value { IfOk result (λ text. depth (view value.now) ≤ max_depth
-        → IsValueOf text.items (view value.now)) }
+/// The text of a certificate, as `serde_json` writes what the certificate sends. It tests that the text is
+/// UTF-8; an error can only be want of memory, since each field is in its range.
+fn text_of(alloc: Global, c: &Certificate) -> Result<Vec<u8>, NoMemory>
+    requires { IsCertificateInRange c.now }
+    ensures text { IfOk result (λ text. text.items ≡ certificate_line c.now) }
+    ensures value { OnOk result (IsValueOf (certificate_line c.now) (certificate_data c.now)) }
+    ensures read_back { OnOk result (IsReadBack c.now) }
 {
-    Ok(value.to_vec(alloc)?)
+    match serde_json::to_string(alloc, c) {
+        Ok(text) => Ok(text.into_bytes()),
+        Err(_) => Err(NoMemory),
+    }
 }
 
 /// A text with LF behind it.
@@ -75,161 +76,169 @@ fn ended(text: Vec<u8>) -> Result<Vec<u8>, NoMemory>
     Ok(line)
 }
 
-fn certificate(alloc: Global, c: &Certificate) -> Result<Value, NoMemory>
-    requires { IsCertificateInRange c.now }
-    ensures value { IfOk result (λ v. view v ≡ certificate_data c.now) }
-    ensures read_back { OnOk result (IsReadBack c.now) }
+/// A certificate sends its value of JSON.
+impl Described for Certificate {
+    ghost writes = { λ c. SendsCertificate c };
+}
+
+impl Serialize for Certificate {
+    fn serialize<S: Serializer>(&self, out: &mut S) -> Result<(), S::Error> {
+        certificate(self, out)
+    }
+}
+
+/// A certificate, by its kind.
+fn certificate<S: Serializer>(c: &Certificate, out: &mut S) -> Result<(), S::Error>
+    ensures sent { OnOk result (SendsValue (certificate_data c.now) (S.written out.old) (S.written out.new)) }
+    ensures read_back { OnOk result (IsCertificateInRange c.now → IsReadBack c.now) }
 {
     match &c.body {
-        CertBody::K0 { expiry, pair, k0 } => level(alloc, c, *expiry, *pair, *k0),
-        CertBody::Single { term, figure } => one_term(alloc, "single", c, term, figure),
+        CertBody::K0 { expiry, pair, k0 } => level(c, *expiry, *pair, *k0, out),
+        CertBody::Single { term, figure } => one_term("single", c, term, figure, out),
         CertBody::Index {
             days,
             near,
             next,
             figure,
-        } => index(alloc, c, *days, near, next, figure),
-        CertBody::Soq { term, figure } => one_term(alloc, "soq", c, term, figure),
+        } => index(c, *days, near, next, figure, out),
+        CertBody::Soq { term, figure } => one_term("soq", c, term, figure, out),
     }
 }
 
-fn level(
-    alloc: Global,
+/// A certificate of kind `k0`.
+fn level<S: Serializer>(
     c: &Certificate,
     expiry: Expiry,
     pair: Pair,
     k0: u32,
-) -> Result<Value, NoMemory>
-    requires time { c.now.time ≤ MINUTE_MAX }
-    requires expiry { IsExpiryInRange expiry }
-    ensures value { IfOk result (λ v. view v ≡ level_data c.now expiry pair k0) }
-    ensures read_back { OnOk result (level_body (level_data c.now expiry pair k0) ≡ Ok (K0 expiry pair k0)) }
+    out: &mut S,
+) -> Result<(), S::Error>
+    ensures sent { OnOk result
+        (SendsValue (level_data c.now expiry pair k0) (S.written out.old) (S.written out.new)) }
+    ensures read_back { OnOk result (IsExpiryInRange expiry
+        → level_body (level_data c.now expiry pair k0) ≡ Ok (K0 expiry pair k0)) }
 {
-    let mut fields = Map::new(alloc);
-    field(alloc, &mut fields, "v", Value::from(c.v))?;
-    field(alloc, &mut fields, "time", value::time(alloc, c.time)?)?;
-    field(alloc, &mut fields, "root", value::root(alloc, expiry.root)?)?;
-    field(alloc, &mut fields, "pair", value::pair(alloc, pair)?)?;
-    field(alloc, &mut fields, "line", Value::from(c.line))?;
-    field(alloc, &mut fields, "kind", value::name(alloc, "k0")?)?;
-    field(alloc, &mut fields, "k0", value::word(k0))?;
-    field(alloc, &mut fields, "date", value::date(alloc, expiry.date)?)?;
-    Ok(Value::Object(fields))
+    out.begin_map(Some(8))?;
+    out.key("date")?;
+    send::date(expiry.date, out)?;
+    out.key("k0")?;
+    send::word(k0, out)?;
+    out.key("kind")?;
+    out.str("k0")?;
+    out.key("line")?;
+    out.u64(c.line)?;
+    out.key("pair")?;
+    send::pair(pair, out)?;
+    out.key("root")?;
+    send::root(expiry.root, out)?;
+    out.key("time")?;
+    send::time(c.time, out)?;
+    out.key("v")?;
+    send::word(c.v, out)?;
+    out.end_map()
 }
 
-fn one_term(
-    alloc: Global,
+/// A certificate of kind `single` or `soq`.
+fn one_term<S: Serializer>(
     kind: &str,
     c: &Certificate,
     term: &CertTerm,
     figure: &CertFigure,
-) -> Result<Value, NoMemory>
-    requires time { c.now.time ≤ MINUTE_MAX }
-    requires term { IsTermInRange term.now }
-    ensures value { IfOk result (λ v. view v ≡ one_term_data kind.now c.now term.now figure.now) }
-    ensures read_back { OnOk result (IsTermReadBack term.now) }
+    out: &mut S,
+) -> Result<(), S::Error>
+    ensures sent { OnOk result
+        (SendsValue (one_term_data kind.now c.now term.now figure.now) (S.written out.old) (S.written out.new)) }
+    ensures read_back { OnOk result (IsTermInRange term.now → IsTermReadBack term.now) }
 {
-    let mut fields = Map::new(alloc);
-    field(alloc, &mut fields, "x", value::ends(alloc, figure.x)?)?;
-    field(alloc, &mut fields, "v", Value::from(c.v))?;
-    field(alloc, &mut fields, "time", value::time(alloc, c.time)?)?;
-    field(alloc, &mut fields, "term", term_value(alloc, term)?)?;
-    field(alloc, &mut fields, "line", Value::from(c.line))?;
-    field(alloc, &mut fields, "kind", value::name(alloc, kind)?)?;
-    field(
-        alloc,
-        &mut fields,
-        "ends",
-        value::two_wide(alloc, i128::from(figure.lo), i128::from(figure.hi))?,
-    )?;
-    field(alloc, &mut fields, "cents", Value::from(figure.cents))?;
-    Ok(Value::Object(fields))
+    out.begin_map(Some(8))?;
+    out.key("cents")?;
+    out.u64(figure.cents)?;
+    out.key("ends")?;
+    send::index_ends(figure, out)?;
+    out.key("kind")?;
+    out.str(kind)?;
+    out.key("line")?;
+    out.u64(c.line)?;
+    out.key("term")?;
+    send_term(term, out)?;
+    out.key("time")?;
+    send::time(c.time, out)?;
+    out.key("v")?;
+    send::word(c.v, out)?;
+    out.key("x")?;
+    send::ends(figure.x, out)?;
+    out.end_map()
 }
 
-fn index(
-    alloc: Global,
+/// A certificate of kind `index`.
+fn index<S: Serializer>(
     c: &Certificate,
     days: u32,
     near: &CertTerm,
     next: &CertTerm,
     figure: &CertFigure,
-) -> Result<Value, NoMemory>
-    requires time { c.now.time ≤ MINUTE_MAX }
-    requires near { IsTermInRange near.now }
-    requires next { IsTermInRange next.now }
-    ensures value { IfOk result (λ v. view v ≡ index_data c.now days near.now next.now figure.now) }
-    ensures near { OnOk result (IsTermReadBack near.now) }
-    ensures next { OnOk result (IsTermReadBack next.now) }
+    out: &mut S,
+) -> Result<(), S::Error>
+    ensures sent { OnOk result
+        (SendsValue (index_data c.now days near.now next.now figure.now) (S.written out.old) (S.written out.new)) }
+    ensures near { OnOk result (IsTermInRange near.now → IsTermReadBack near.now) }
+    ensures next { OnOk result (IsTermInRange next.now → IsTermReadBack next.now) }
 {
-    let near = term_value(alloc, near)?;
-    let next = term_value(alloc, next)?;
-    index_of_values(alloc, c, days, near, next, figure)
+    out.begin_map(Some(10))?;
+    out.key("cents")?;
+    out.u64(figure.cents)?;
+    out.key("days")?;
+    send::word(days, out)?;
+    out.key("ends")?;
+    send::index_ends(figure, out)?;
+    out.key("kind")?;
+    out.str("index")?;
+    out.key("line")?;
+    out.u64(c.line)?;
+    out.key("near")?;
+    send_term(near, out)?;
+    out.key("next")?;
+    send_term(next, out)?;
+    out.key("time")?;
+    send::time(c.time, out)?;
+    out.key("v")?;
+    send::word(c.v, out)?;
+    out.key("x")?;
+    send::ends(figure.x, out)?;
+    out.end_map()
 }
 
-fn index_of_values(
-    alloc: Global,
-    c: &Certificate,
-    days: u32,
-    near: Value,
-    next: Value,
-    figure: &CertFigure,
-) -> Result<Value, NoMemory>
-    requires { c.now.time ≤ MINUTE_MAX }
-    ensures { IfOk result (λ v. view v
-        ≡ index_of_data c.now days (view near) (view next) figure.now) }
+/// One term's part of a certificate.
+fn send_term<S: Serializer>(term: &CertTerm, out: &mut S) -> Result<(), S::Error>
+    ensures sent { OnOk result (SendsValue (term_data term.now) (S.written out.old) (S.written out.new)) }
+    ensures read_back { OnOk result (IsTermInRange term.now → IsTermReadBack term.now) }
 {
-    let mut fields = Map::new(alloc);
-    field(alloc, &mut fields, "next", next)?;
-    field(alloc, &mut fields, "near", near)?;
-    field(alloc, &mut fields, "x", value::ends(alloc, figure.x)?)?;
-    field(alloc, &mut fields, "v", Value::from(c.v))?;
-    field(alloc, &mut fields, "time", value::time(alloc, c.time)?)?;
-    field(alloc, &mut fields, "line", Value::from(c.line))?;
-    field(alloc, &mut fields, "kind", value::name(alloc, "index")?)?;
-    field(
-        alloc,
-        &mut fields,
-        "ends",
-        value::two_wide(alloc, i128::from(figure.lo), i128::from(figure.hi))?,
-    )?;
-    field(alloc, &mut fields, "days", Value::from(days))?;
-    field(alloc, &mut fields, "cents", Value::from(figure.cents))?;
-    Ok(Value::Object(fields))
-}
-
-fn term_value(alloc: Global, term: &CertTerm) -> Result<Value, NoMemory>
-    requires { IsTermInRange term.now }
-    ensures value { IfOk result (λ v. view v ≡ term_data term.now) }
-    ensures read_back { OnOk result (IsTermReadBack term.now) }
-{
-    let mut fields = Map::new(alloc);
-    field(alloc, &mut fields, "w", value::ends(alloc, term.w)?)?;
-    field(alloc, &mut fields, "s", value::ends(alloc, term.s)?)?;
-    field(alloc, &mut fields, "rows", value::rows(alloc, &term.rows)?)?;
-    field(
-        alloc,
-        &mut fields,
-        "root",
-        value::root(alloc, term.expiry.root)?,
-    )?;
-    field(alloc, &mut fields, "rate", Value::from(term.rate))?;
-    field(alloc, &mut fields, "pair", value::pair(alloc, term.pair)?)?;
-    field(alloc, &mut fields, "minutes", Value::from(term.minutes))?;
-    field(alloc, &mut fields, "k0", value::word(term.k0))?;
-    field(alloc, &mut fields, "g", value::ends(alloc, term.g)?)?;
-    field(alloc, &mut fields, "f", value::ends(alloc, term.f)?)?;
-    field(
-        alloc,
-        &mut fields,
-        "exp",
-        value::taylor(alloc, &term.t_lo, &term.t_hi)?,
-    )?;
-    field(alloc, &mut fields, "e", value::ends(alloc, term.e)?)?;
-    field(
-        alloc,
-        &mut fields,
-        "date",
-        value::date(alloc, term.expiry.date)?,
-    )?;
-    Ok(Value::Object(fields))
+    out.begin_map(Some(13))?;
+    out.key("date")?;
+    send::date(term.expiry.date, out)?;
+    out.key("e")?;
+    send::ends(term.e, out)?;
+    out.key("exp")?;
+    send::taylor(&term.t_lo, &term.t_hi, out)?;
+    out.key("f")?;
+    send::ends(term.f, out)?;
+    out.key("g")?;
+    send::ends(term.g, out)?;
+    out.key("k0")?;
+    send::word(term.k0, out)?;
+    out.key("minutes")?;
+    send::word(term.minutes, out)?;
+    out.key("pair")?;
+    send::pair(term.pair, out)?;
+    out.key("rate")?;
+    send::rate(term, out)?;
+    out.key("root")?;
+    send::root(term.expiry.root, out)?;
+    out.key("rows")?;
+    send::rows(&term.rows, out)?;
+    out.key("s")?;
+    send::ends(term.s, out)?;
+    out.key("w")?;
+    send::ends(term.w, out)?;
+    out.end_map()
 }

@@ -1,5 +1,59 @@
+use Rattle.std.proofs.lemmas.Result.{on_ok_weaker}
 use Rattle.vx_cert.proofs.WrittenBack.{level_back}
+use Rattle.vx_cert.proofs.WrittenData.{on_ok}
 use Rattle.vx_cert.proofs.write.level.Goals as goal
 
 pub returns-clause-read_back : goal.returns-clause-read_back
-returns-clause-read_back c = level_back c.args.c.now c.args.expiry c.args.pair c.args.k0 c.requires.expiry c.in_ok-pair.ensures.read_back c.word.ensures.read_back
+returns-clause-read_back g c =
+    on_ok c.end_map.result (λ h. level_back c.args.c.now c.args.expiry c.args.pair c.args.k0 h c.in_ok-pair.ensures.read_back c.in_ok-word.ensures.read_back)
+
+pub returns-clause-sent : goal.returns-clause-sent
+returns-clause-sent g c =
+    let w = g.S.Serializer.written in
+    on_ok_weaker c.end_map.result (λ e. (
+      w c.begin_map.new.self,
+      c.in_ok-begin_map.ensures,
+      (
+        w c.key.new.self,
+        w c.date.new.out,
+        c.in_ok-key.ensures,
+        c.in_ok-date.ensures,
+        (
+          w c.key-2.new.self,
+          w c.word.new.out,
+          c.in_ok-key-2.ensures,
+          c.in_ok-word.ensures.sent,
+          (
+            w c.key-3.new.self,
+            w c.str.new.self,
+            c.in_ok-key-3.ensures,
+            c.in_ok-str.ensures,
+            (
+              w c.key-4.new.self,
+              w c.u64.new.self,
+              c.in_ok-key-4.ensures,
+              c.in_ok-u64.ensures,
+              (
+                w c.key-5.new.self,
+                w c.pair.new.out,
+                c.in_ok-key-5.ensures,
+                c.in_ok-pair.ensures.sent,
+                (
+                  w c.key-6.new.self,
+                  w c.root.new.out,
+                  c.in_ok-key-6.ensures,
+                  c.in_ok-root.ensures,
+                  (
+                    w c.key-7.new.self,
+                    w c.time.new.out,
+                    c.in_ok-key-7.ensures,
+                    c.in_ok-time.ensures,
+                    (w c.key-8.new.self, w c.word-2.new.out, c.in_ok-key-8.ensures, c.in_ok-word-2.ensures.sent, e),
+                  ),
+                ),
+              ),
+            ),
+          ),
+        ),
+      ),
+    )) c.end_map.ensures
