@@ -54,7 +54,9 @@ pub digits_after_digits : (xs : List ℕ) → filter is_digit xs ≡ take (prefi
 digits_after_digits [] = refl
 digits_after_digits (x ∷ xs) = by (is_digit x) refl (digits_after_digits xs)
   where
-    by : (t : Bool) → is_digit x ≡ t → (filter is_digit xs ≡ take (prefix_len is_digit xs) xs ++ filter is_digit (drop (prefix_len is_digit xs) xs)) → filter is_digit (x ∷ xs) ≡ take (prefix_len is_digit (x ∷ xs)) (x ∷ xs) ++ filter is_digit (drop (prefix_len is_digit (x ∷ xs)) (x ∷ xs))
+    by : (t : Bool) → is_digit x ≡ t
+        → (filter is_digit xs ≡ take (prefix_len is_digit xs) xs ++ filter is_digit (drop (prefix_len is_digit xs) xs))
+        → filter is_digit (x ∷ xs) ≡ take (prefix_len is_digit (x ∷ xs)) (x ∷ xs) ++ filter is_digit (drop (prefix_len is_digit (x ∷ xs)) (x ∷ xs))
     by true e r = rw (e, one_more (prefix_len is_digit xs) x xs, one_more_taken (prefix_len is_digit xs) x xs) (ap (λ ys. x ∷ ys) r)
     by false e r = let z : 0 ≡ prefix_len is_digit (x ∷ xs) = rw e in ap (λ n. take n (x ∷ xs) ++ filter is_digit (drop n (x ∷ xs))) z
 
@@ -149,11 +151,13 @@ filter_at_dot [] n e = absurd (omega arith)
 filter_at_dot (x ∷ xs) n e = rw ((dot_is x e).1, behind_is x xs)
 
 -- where the digits behind a dot are none, or end before the text, it is no decimal
-pub no_digits_behind_dot : (xs : List ℕ) (n : ℕ) → 1 ≤ length xs → get_or xs 0 0 ≡ 46 → n ≡ prefix_len is_digit (behind_first xs) → (n ≡ 0) ⊎ ((n ≡ 0 → ⊥) × (n < length (behind_first xs))) → is_decimal_rest xs ≡ false
+pub no_digits_behind_dot : (xs : List ℕ) (n : ℕ) → 1 ≤ length xs → get_or xs 0 0 ≡ 46 → n ≡ prefix_len is_digit (behind_first xs)
+    → (n ≡ 0) ⊎ ((n ≡ 0 → ⊥) × (n < length (behind_first xs))) → is_decimal_rest xs ≡ false
 no_digits_behind_dot xs n l e p h = rest_at_dot xs l e ∙ not_digits_by (behind_first xs) n p h
 
 -- where they go to the end of the text, it is one
-pub digits_behind_dot : (xs : List ℕ) (n : ℕ) → 1 ≤ length xs → get_or xs 0 0 ≡ 46 → n ≡ prefix_len is_digit (behind_first xs) → (n ≡ 0 → ⊥) → length (behind_first xs) ≤ n → (is_decimal_rest xs ≡ true) × (filter is_digit xs ≡ take n (behind_first xs))
+pub digits_behind_dot : (xs : List ℕ) (n : ℕ) → 1 ≤ length xs → get_or xs 0 0 ≡ 46 → n ≡ prefix_len is_digit (behind_first xs)
+    → (n ≡ 0 → ⊥) → length (behind_first xs) ≤ n → (is_decimal_rest xs ≡ true) × (filter is_digit xs ≡ take n (behind_first xs))
 digits_behind_dot xs n l e p some all =
     let ys = behind_first xs in
     let fits : prefix_len is_digit ys ≤ length ys = prefix_len-le-length is_digit ys in
@@ -213,7 +217,10 @@ capped_front whole front large p behind digits one h e = by_lt whole large
     omega arith)
 
 -- a decimal's digits are those at the front and those behind the dot
-pub digits_of_parts : (xs : List ℕ) (n whole large places digits : ℕ) → n ≡ prefix_len is_digit xs → min whole large ≡ min (digits_worth (take n xs)) large → is_decimal_rest (rest_from n xs) ≡ true → places ≡ places_of (rest_from n xs) → min digits large ≡ min (whole * 10 ^ places + digits_worth (filter is_digit (rest_from n xs))) large → min digits large ≡ min (digits_worth (filter is_digit xs)) large
+pub digits_of_parts : (xs : List ℕ) (n whole large places digits : ℕ) → n ≡ prefix_len is_digit xs → min whole large ≡ min (digits_worth (take n xs)) large
+    → is_decimal_rest (rest_from n xs) ≡ true → places ≡ places_of (rest_from n xs)
+    → min digits large ≡ min (whole * 10 ^ places + digits_worth (filter is_digit (rest_from n xs))) large
+    → min digits large ≡ min (digits_worth (filter is_digit xs)) large
 digits_of_parts xs n whole large places digits e w form p h =
     let behind = filter is_digit (rest_from n xs) in
     let same : length behind ≡ places = rest_places (rest_from n xs) (rest_has_no_digit xs n e) form ∙ sym p in
@@ -259,7 +266,9 @@ decimal_of_value (x ∷ xs) places max e h l =
     rw (e, s, t)
 
 -- the answer, by digits that are only known below a cap
-scaled_answer : (digits worth power max large : ℕ) (answer : Result ℕ DecimalFault) → 1 ≤ power → max < large → min digits large ≡ min worth large → (worth * power ≤ max → answer ≡ Ok (worth * power)) → (max < worth * power → answer ≡ Err TooLarge) → ok_or (if nat_le (digits * power) max then Some (digits * power) else None) TooLarge ≡ answer
+scaled_answer : (digits worth power max large : ℕ) (answer : Result ℕ DecimalFault) → 1 ≤ power → max < large → min digits large ≡ min worth large
+    → (worth * power ≤ max → answer ≡ Ok (worth * power)) → (max < worth * power → answer ≡ Err TooLarge)
+    → ok_or (if nat_le (digits * power) max then Some (digits * power) else None) TooLarge ≡ answer
 scaled_answer digits worth power max large answer one cap h fits over = by (nat_le (digits * power) max) refl
   where
     by : (t : Bool) → nat_le (digits * power) max ≡ t → ok_or (if nat_le (digits * power) max then Some (digits * power) else None) TooLarge ≡ answer
@@ -276,7 +285,9 @@ scaled_answer digits worth power max large answer one cap h fits over = by (nat_
         rw t (sym (over above))
 
 -- the answer, by the digits and the zeros that they lack
-pub decimal_of_scaled : (xs : List ℕ) (places max digits p large : ℕ) → is_decimal xs ≡ true → p ≡ places_of xs → p ≤ places → max < large → min digits large ≡ min (digits_worth (filter is_digit xs)) large → ok_or (if nat_le (digits * 10 ^ (places - p)) max then Some (digits * 10 ^ (places - p)) else None) TooLarge ≡ decimal_of xs places max
+pub decimal_of_scaled : (xs : List ℕ) (places max digits p large : ℕ) → is_decimal xs ≡ true → p ≡ places_of xs → p ≤ places → max < large
+    → min digits large ≡ min (digits_worth (filter is_digit xs)) large
+    → ok_or (if nat_le (digits * 10 ^ (places - p)) max then Some (digits * 10 ^ (places - p)) else None) TooLarge ≡ decimal_of xs places max
 decimal_of_scaled xs places max digits p large form e fits cap h =
     let worth = digits_worth (filter is_digit xs) in
     let value : worth * 10 ^ (places - p) ≡ scaled_value xs places = ap (λ q. worth * 10 ^ (places - q)) e in
@@ -318,7 +329,8 @@ pub run_is_all : (xs : List ℕ) (n : ℕ) → n ≡ prefix_len is_digit xs → 
 run_is_all xs n e h = let fits : prefix_len is_digit xs ≤ length xs = prefix_len-le-length is_digit xs in (omega arith, take_all n xs h)
 
 -- from a value of too many bits it answers so
-pub magnitude_of_large : (xs : List ℕ) (bits n p v large : ℕ) → 0 < length xs → n ≡ prefix_len is_digit xs → length xs ≤ n → 2 ^ bits ≤ large → min v large ≡ min (0 * p + digits_worth (take n xs)) large → 2 ^ bits ≤ v → magnitude_of xs bits ≡ Err TooLarge
+pub magnitude_of_large : (xs : List ℕ) (bits n p v large : ℕ) → 0 < length xs → n ≡ prefix_len is_digit xs → length xs ≤ n → 2 ^ bits ≤ large
+    → min v large ≡ min (0 * p + digits_worth (take n xs)) large → 2 ^ bits ≤ v → magnitude_of xs bits ≡ Err TooLarge
 magnitude_of_large [] bits n p v large some e all cap h l = absurd (omega arith)
 magnitude_of_large (x ∷ xs) bits n p v large some e all cap h l =
     let run = run_is_all (x ∷ xs) n e all in
@@ -328,7 +340,8 @@ magnitude_of_large (x ∷ xs) bits n p v large some e all cap h l =
     rw (yes, test)
 
 -- from any other digits it answers their value
-pub magnitude_of_value : (xs : List ℕ) (bits n p v large : ℕ) → 0 < length xs → n ≡ prefix_len is_digit xs → length xs ≤ n → 2 ^ bits ≤ large → min v large ≡ min (0 * p + digits_worth (take n xs)) large → v < 2 ^ bits → magnitude_of xs bits ≡ Ok v
+pub magnitude_of_value : (xs : List ℕ) (bits n p v large : ℕ) → 0 < length xs → n ≡ prefix_len is_digit xs → length xs ≤ n → 2 ^ bits ≤ large
+    → min v large ≡ min (0 * p + digits_worth (take n xs)) large → v < 2 ^ bits → magnitude_of xs bits ≡ Ok v
 magnitude_of_value [] bits n p v large some e all cap h l = absurd (omega arith)
 magnitude_of_value (x ∷ xs) bits n p v large some e all cap h l =
     let run = run_is_all (x ∷ xs) n e all in

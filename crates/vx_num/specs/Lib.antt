@@ -2,5 +2,6 @@
 pub mod Decimal
 pub mod Fraction
 pub mod Quotient
+pub mod Runs
 pub mod SignedSquare
 pub mod Written

@@ -3,6 +3,7 @@
 ghost use Rattle.std.specs.Prelude.{◌≡◌, ℕ, true, ◌+◌, ◌*◌, ◌^◌, ◌<◌, ◌≤◌, IfOk, IfSome, filter, length, if◌then◌else◌, is_some, min, nat_abs, nat_le, neg_ℤ, pos, take, ◌≤ℤ◌};
 ghost use Rattle.std.specs.List.{list_all, prefix_len};
 ghost use Rattle.vx_num.specs.Decimal.{decimal_of, digits_worth, is_decimal, is_decimal_rest, is_digit, magnitude_of, places_of, signed_decimal_of, wide_of};
+ghost use Rattle.vx_num.specs.Runs.{IsWorth, IsWorthBehind};
 
 use crate::fault::DecimalFault;
 
@@ -19,7 +20,13 @@ const SHORT_LEN: usize = 9;
 
 const SHORT_START: u64 = 1_000_000_000;
 
-/// The digits at the front of a short text.
+/// What so many digits are worth fits 64 bits, and what twice as many are worth fits 128.
+const PART_LEN: usize = 18;
+
+/// Digits with `PART_LEN` digits behind them are worth so many times more.
+const PART_UNIT: u128 = 1_000_000_000_000_000_000;
+
+/// The digits at the front of a text, where what they are worth fits 64 bits.
 #[derive(Drop)]
 struct ShortRun {
     /// What they are worth behind the digits before.
@@ -46,11 +53,11 @@ fn with_digit(value: u128, digit: u8) -> u128
     }
 }
 
-/// Reads the digits at the front of a short text, which stand behind few digits worth `start`.
+/// Reads the digits at the front of a text of one part, which stand behind few digits worth `start`.
 #[inline(always)]
 fn short_run(text: &[u8], start: u64) -> ShortRun
-    requires short { length text.now ≤ SHORT_LEN }
-    requires few { start < SHORT_START }
+    requires short { length text.now ≤ PART_LEN }
+    requires few { start * 10 ^ length text.now < 2 ^ 63 }
     ensures len { result.len ≡ prefix_len is_digit text.now }
     ensures value { result.value ≡ start * 10 ^ result.len + digits_worth (take result.len text.now) }
 {
@@ -67,10 +74,38 @@ fn short_run(text: &[u8], start: u64) -> ShortRun
     }
 }
 
+/// Reads a text of one part and of digits alone, which stand behind few digits worth `start`.
+#[inline(always)]
+fn digits_alone(text: &[u8], start: u64) -> Option<u64>
+    requires short { length text.now ≤ PART_LEN }
+    requires few { start * 10 ^ length text.now < 2 ^ 63 }
+    ensures form { IfSome result (λ _. list_all is_digit text.now ≡ true) }
+    ensures value { IfSome result (λ value. value ≡ start * 10 ^ length text.now + digits_worth text.now) }
+{
+    let run = short_run(text, start);
+    if run.len < text.len() {
+        return None;
+    }
+    Some(run.value)
+}
+
+/// Reads a text of two parts and of digits alone: one product in 128 bits joins what each part is worth.
+fn two_parts(text: &[u8]) -> Option<u128>
+    requires least { PART_LEN ≤ length text.now }
+    requires most { length text.now ≤ 2 * PART_LEN }
+    ensures form { IfSome result (λ _. list_all is_digit text.now ≡ true) }
+    ensures value { IfSome result (λ value. value ≡ digits_worth text.now) }
+{
+    let split = text.len() - PART_LEN;
+    let high = digits_alone(&text[..split], 0)?;
+    let low = digits_alone(&text[split..], 0)?;
+    Some(u128::from(high) * PART_UNIT + u128::from(low))
+}
+
 /// Reads the digits at the front of any text, which stand behind digits worth `start`.
 fn long_run(text: &[u8], start: u128) -> DigitRun
     ensures len { result.len ≡ prefix_len is_digit text.now }
-    ensures value { min result.value LARGE ≡ min (start * 10 ^ result.len + digits_worth (take result.len text.now)) LARGE }
+    ensures value { IsWorthBehind LARGE start result.len (take result.len text.now) result.value }
 {
     let mut value = start;
     for (len, &byte) in text.iter().enumerate() {
@@ -88,7 +123,7 @@ fn long_run(text: &[u8], start: u128) -> DigitRun
 /// Reads the digits at the front of the text, which stand behind digits worth `start`.
 fn digit_run(text: &[u8], start: u128) -> DigitRun
     ensures len { result.len ≡ prefix_len is_digit text.now }
-    ensures value { min result.value LARGE ≡ min (start * 10 ^ result.len + digits_worth (take result.len text.now)) LARGE }
+    ensures value { IsWorthBehind LARGE start result.len (take result.len text.now) result.value }
 {
     if text.len() <= SHORT_LEN && start < SHORT_START as u128 {
         let run = short_run(text, start as u64);
@@ -98,6 +133,41 @@ fn digit_run(text: &[u8], start: u128) -> DigitRun
         };
     }
     long_run(text, start)
+}
+
+/// Reads the digits at the front of a text of more than one part. It stands apart, so that what reads
+/// the many texts of one part stays small.
+#[inline(never)]
+fn wide_run(text: &[u8]) -> DigitRun
+    requires { PART_LEN ≤ length text.now }
+    ensures len { result.len ≡ prefix_len is_digit text.now }
+    ensures value { IsWorthBehind LARGE 0 result.len (take result.len text.now) result.value }
+{
+    if text.len() <= 2 * PART_LEN {
+        if let Some(value) = two_parts(text) {
+            return DigitRun {
+                value,
+                len: text.len(),
+            };
+        }
+    }
+    long_run(text, 0)
+}
+
+/// Reads the digits at the front of the text, which stand behind no other digits.
+#[inline(always)]
+fn front_run(text: &[u8]) -> DigitRun
+    ensures len { result.len ≡ prefix_len is_digit text.now }
+    ensures value { IsWorthBehind LARGE 0 result.len (take result.len text.now) result.value }
+{
+    if text.len() > PART_LEN {
+        return wide_run(text);
+    }
+    let run = short_run(text, 0);
+    DigitRun {
+        value: u128::from(run.value),
+        len: run.len,
+    }
 }
 
 /// A decimal without its dot.
@@ -115,7 +185,8 @@ fn with_places(whole: u128, rest: &[u8]) -> Option<Numeral>
     requires { prefix_len is_digit rest.now ≡ 0 }
     ensures form { is_some result ≡ is_decimal_rest rest.now }
     ensures places { IfSome result (λ numeral. numeral.places ≡ places_of rest.now) }
-    ensures digits { IfSome result (λ numeral. min numeral.digits LARGE ≡ min (whole * 10 ^ numeral.places + digits_worth (filter is_digit rest.now)) LARGE) }
+    ensures digits { IfSome result (λ numeral.
+        IsWorthBehind LARGE whole numeral.places (filter is_digit rest.now) numeral.digits) }
 {
     match rest {
         [] => Some(Numeral {
@@ -140,9 +211,9 @@ fn with_places(whole: u128, rest: &[u8]) -> Option<Numeral>
 fn without_dot(text: &[u8]) -> Option<Numeral>
     ensures form { is_some result ≡ is_decimal text.now }
     ensures places { IfSome result (λ numeral. numeral.places ≡ places_of text.now) }
-    ensures digits { IfSome result (λ numeral. min numeral.digits LARGE ≡ min (digits_worth (filter is_digit text.now)) LARGE) }
+    ensures digits { IfSome result (λ numeral. IsWorth LARGE numeral.digits (digits_worth (filter is_digit text.now))) }
 {
-    let whole = digit_run(text, 0);
+    let whole = front_run(text);
     if whole.len == 0 {
         return None;
     }
@@ -164,21 +235,6 @@ fn scaled(digits: u128, zeros: u32, max: u64) -> Option<u64>
     } else {
         Some(value as u64)
     }
-}
-
-/// Reads a short text of digits alone, which stand behind few digits worth `start`.
-#[inline(always)]
-fn digits_alone(text: &[u8], start: u64) -> Option<u64>
-    requires short { length text.now ≤ SHORT_LEN }
-    requires few { start < SHORT_START }
-    ensures form { IfSome result (λ _. list_all is_digit text.now ≡ true) }
-    ensures value { IfSome result (λ value. value ≡ start * 10 ^ length text.now + digits_worth text.now) }
-{
-    let run = short_run(text, start);
-    if run.len < text.len() {
-        return None;
-    }
-    Some(run.value)
 }
 
 /// Reads a short decimal that has all its places, as nearly every price does: it needs no scaling.
@@ -269,7 +325,7 @@ fn magnitude(digits: &[u8], bits: u32) -> Result<u128, DecimalFault>
     if digits.is_empty() {
         return Err(DecimalFault::Empty);
     }
-    let run = digit_run(digits, 0);
+    let run = front_run(digits);
     if run.len < digits.len() {
         return Err(DecimalFault::NotDigit);
     }

@@ -45,7 +45,8 @@ pub fn sums_are_monotone()
 pub fn products_are_monotone()
     ensures growing { (f g h : Fraction) → pos 0 ≤ℤ h.top → f ≤ᶠ g → (f *ᶠ h) ≤ᶠ (g *ᶠ h) }
     ensures falling { (f g h : Fraction) → h.top ≤ℤ pos 0 → f ≤ᶠ g → (g *ᶠ h) ≤ᶠ (f *ᶠ h) }
-    ensures both { (f f' g g' : Fraction) → pos 0 ≤ℤ f.top → pos 0 ≤ℤ g.top → f ≤ᶠ f' → g ≤ᶠ g' → (f *ᶠ g) ≤ᶠ (f' *ᶠ g') }
+    ensures both { (f f' g g' : Fraction) → pos 0 ≤ℤ f.top → pos 0 ≤ℤ g.top
+        → f ≤ᶠ f' → g ≤ᶠ g' → (f *ᶠ g) ≤ᶠ (f' *ᶠ g') }
 {}
 
 /// A factor above zero, and a divisor above zero, changes no order, and can be taken away again.

@@ -91,12 +91,30 @@ fn put_natural(text: &mut Backwards, value: u128)
     put_small(text, rest as u64);
 }
 
+/// Writes the last digits of a number below `2^64`, and answers what stands before them.
+fn put_last_small(text: &mut Backwards, value: u64, count: u32) -> u64
+    requires { length text.old + count ≤ ROOM }
+    ensures written { text.new ≡ last_digits count value ++ text.old }
+    ensures rest { result ≡ value / 10 ^ count }
+{
+    let mut rest = value;
+    for _ in 0..count {
+        text.put_digit((rest % 10) as u8);
+        rest /= 10;
+    }
+    rest
+}
+
 /// Writes the last digits of a number, and answers what stands before them.
 fn put_last_digits(text: &mut Backwards, value: u128, count: u32) -> u128
     requires { length text.old + count ≤ ROOM }
     ensures written { text.new ≡ last_digits count value ++ text.old }
     ensures rest { result ≡ value / 10 ^ count }
 {
+    // Division is dear at this width, and nearly every number fits the narrow one.
+    if value <= u64::MAX as u128 {
+        return u128::from(put_last_small(text, value as u64, count));
+    }
     let mut rest = value;
     for _ in 0..count {
         text.put_digit((rest % 10) as u8);
