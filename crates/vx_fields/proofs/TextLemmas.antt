@@ -6,7 +6,7 @@ use Rattle.std.proofs.lemmas.Bool.Decides.{nat_tests}
 use Rattle.std.proofs.lemmas.List.{drop_all, drop_more}
 use Rattle.std.proofs.lemmas.List.Elements.{All-cons, All-head, All-nil, All-tail}
 use Rattle.vx_lines.specs.Cut.{HasNoLf}
-use Rattle.vx_fields.specs.Lines.{is_plain, is_plain_line, line_feed, lines_in, may_follow, plain_head, text_of}
+use Rattle.vx_fields.specs.Lines.{is_plain, is_plain_line, lf_count, line_feed, lines_in, may_follow, plain_head, text_of}
 use Rattle.vx_fields.proofs.CsvLines.{both_left, both_right}
 use Rattle.vx_fields.proofs.BlockLines.{lines_in-text_of}
 
@@ -162,11 +162,6 @@ head_keeps P (line ∷ lines) all = keeps_by P line lines (is_plain_line line) (
 
 -- ---- how many lines a text has
 
--- how many LFs
-abbrev pub lf_count : List ℕ → ℕ
-lf_count [] = 0
-lf_count (byte ∷ text) = if byte == line_feed then 1 + lf_count text else lf_count text
-
 count_first : (line rest : List ℕ) → HasNoLf line → lf_count (line ++ line_feed ∷ rest) ≡ 1 + lf_count rest
 count_first [] rest none = refl
 count_first (byte ∷ line) rest none =
@@ -183,6 +178,16 @@ count_text (line ∷ lines) none =
 -- as many as there are lines
 pub count_whole : (text : List ℕ) → text ≡ text_of (lines_in text) → lf_count text ≡ length (lines_in text)
 count_whole text whole = ap lf_count whole ∙ count_text (lines_in text) (none_in text)
+
+both_by : (front back : ℕ) (b : Bool) → cond b (1 + (front + back)) (front + back) ≡ cond b (1 + front) front + back
+both_by front back true = omega arith
+both_by front back false = omega arith
+
+-- of a text in two parts as many as of both
+pub count_both : (front back : List ℕ) → lf_count (front ++ back) ≡ lf_count front + lf_count back
+count_both [] back = omega arith
+count_both (byte ∷ front) back =
+    ap (λ n. cond (byte == line_feed) (1 + n) n) (count_both front back) ∙ both_by (lf_count front) (lf_count back) (byte == line_feed)
 
 count_more : (byte : ℕ) (text : List ℕ) (b : Bool) → lf_count text ≤ length text → cond b (1 + lf_count text) (lf_count text) ≤ length (byte ∷ text)
 count_more byte text true few = omega (arith, few)

@@ -1,5 +1,5 @@
 -- Lines of text and the pieces between their commas.
-use Rattle.std.specs.Prelude.{ℕ, ◌-◌, Bool, not, ◌&&◌, ◌==◌, nat_le, List, [], ◌∷◌, length, slice_index_or, Option, Some, None, if◌then◌else◌}
+use Rattle.std.specs.Prelude.{ℕ, ◌+◌, ◌-◌, Bool, not, ◌&&◌, ◌==◌, nat_le, List, [], ◌∷◌, length, slice_index_or, Option, Some, None, if◌then◌else◌}
 use Rattle.std.specs.List.{list_all, onto_first, slice_split}
 pub use Rattle.vx_lines.specs.TextLines.{line_feed, text_of}
 use Rattle.vx_fields.specs.declared.line.Unsplit.{Unsplit}
@@ -33,6 +33,11 @@ why_unsplit line = if length line == 0 then Some Empty else (if list_all is_plai
 abbrev pub lines_in : List ℕ → List (List ℕ)
 lines_in [] = []
 lines_in (byte ∷ text) = if byte == line_feed then [] ∷ lines_in text else onto_first byte (lines_in text)
+
+-- how many LFs a text has
+abbrev pub lf_count : List ℕ → ℕ
+lf_count [] = 0
+lf_count (byte ∷ text) = if byte == line_feed then 1 + lf_count text else lf_count text
 
 -- the leading lines of which each can be split
 abbrev pub plain_head : List (List ℕ) → List (List ℕ)

@@ -1,13 +1,18 @@
 //! Lines that are split together.
 
-ghost use Rattle.std.specs.Prelude.{◌≡◌, ◌==◌, [], ◌∷◌, ◌++◌, length, true, OnOk, OnErr};
+ghost use Rattle.std.specs.Prelude.{◌≡◌, ◌≤◌, ◌==◌, [], ◌∷◌, ◌++◌, length, true, OnOk, OnErr};
 ghost use Rattle.std.specs.List.{list_all};
-ghost use Rattle.vx_fields.specs.Lines.{is_plain_line, line_feed, lines_in, text_of};
+ghost use Rattle.vx_fields.specs.declared.block.TheConstants.{PIECE_LEN};
+ghost use Rattle.vx_fields.specs.Lines.{is_plain_line, lf_count, line_feed, lines_in, text_of};
 
 use std::alloc::Global;
 use std::marker::Model;
 use vx_lines::LF;
 use vx_num::NoMemory;
+
+// How many bytes of a text are counted in one byte: fewer than 256, so that no count is too large for it, and a
+// multiple of 32, so that they fill whole vector registers.
+const PIECE_LEN: usize = 224;
 
 // Appends a line and its LF, both or neither.
 fn append_line(text: &mut Vec<u8>, line: &[u8]) -> Result<(), NoMemory>
@@ -31,14 +36,26 @@ fn append_text(text: &mut Vec<u8>, more: &[u8]) -> Result<(), NoMemory>
     Ok(())
 }
 
+// How many LFs a piece of a text has. A byte holds the count, so that a vector register counts many at a time.
+fn count_in_piece(piece: &[u8]) -> u8
+    requires { length piece.now ≤ PIECE_LEN }
+    ensures { result ≡ lf_count piece.now }
+{
+    let mut count = 0u8;
+    for byte in piece {
+        count += u8::from(*byte == LF);
+    }
+    count
+}
+
 // How many lines a text of whole lines has.
 fn count_lines(text: &[u8]) -> usize
     requires whole { text.now ≡ text_of (lines_in text.now) }
     ensures { result ≡ length (lines_in text.now) }
 {
     let mut count = 0;
-    for byte in text {
-        count += usize::from(*byte == LF);
+    for piece in text.chunks(PIECE_LEN) {
+        count += usize::from(count_in_piece(piece));
     }
     count
 }
