@@ -6,7 +6,7 @@ use Rattle.std.specs.List.Sorted.{IsPartitionPoint, IsPartitionedBy, IsNonDecrea
 use Rattle.std.proofs.lemmas.Bool.{cases_order, cases_eq, eq-eqb, ne_eqb, ltb-true, ltb-false}
 use Rattle.std.proofs.lemmas.List.Sorted.{IsPartitionedBy-ltb}
 use Rattle.std.specs.Prelude.{nat_lt, option_map}
-use Rattle.vx_check.specs.Rising.{RisesFrom, Rises, item_at, StandsAt, FitsAt, IsWith}
+use Rattle.vx_check.specs.Rising.{RisesFrom, Rises, item_at, StandsAt, HasKeyAt, FitsAt, IsWith}
 
 module _ {X : Type 0} (key : X → ℕ) where
   -- ---- the item of a key
@@ -180,6 +180,39 @@ module _ {X : Type 0} (key : X → ℕ) where
   key_that_stands k place [] d f = absurd f
   key_that_stands k zero (x ∷ xs) d f = f
   key_that_stands k (suc place) (x ∷ xs) d f = key_that_stands k place xs d f.1
+
+  -- ---- the item at a place
+
+  pub key_at_from : (k place : ℕ) (xs : List X) → place < length xs → ((d : X) → key (get_or xs place d) ≡ k) → HasKeyAt key k place xs
+  key_at_from k place [] within at = absurd (omega arith)
+  key_at_from k zero (x ∷ xs) within at = at x
+  key_at_from k (suc place) (x ∷ xs) within at = key_at_from k place xs (omega arith) at
+
+  pub key_at_is : (k place : ℕ) (xs : List X) (d : X) → HasKeyAt key k place xs → key (get_or xs place d) ≡ k
+  key_at_is k place [] d h = absurd h
+  key_at_is k zero (x ∷ xs) d h = h
+  key_at_is k (suc place) (x ∷ xs) d h = key_at_is k place xs d h
+
+  pub key_at_is_within : (k place : ℕ) (xs : List X) → HasKeyAt key k place xs → place < length xs
+  key_at_is_within k place [] h = absurd h
+  key_at_is_within k zero (x ∷ xs) h = omega arith
+  key_at_is_within k (suc place) (x ∷ xs) h = let a = key_at_is_within k place xs h in omega arith
+
+  key_at_is_least : (k place low : ℕ) (xs : List X) → RisesFrom key low xs → HasKeyAt key k place xs → low ≤ k
+  key_at_is_least k place low [] r h = absurd h
+  key_at_is_least k zero low (x ∷ xs) r h = let a : low ≤ key x = r.0 in let b : key x ≡ k = h in omega arith
+  key_at_is_least k (suc place) low (x ∷ xs) r h =
+      let a : low ≤ key x = r.0 in
+      let b : key x + 1 ≤ k = key_at_is_least k place (key x + 1) xs r.1 h in
+      omega arith
+
+  -- in a rising list those before it have lower keys
+  pub stands_where_rises : (k place low : ℕ) (xs : List X) → RisesFrom key low xs → HasKeyAt key k place xs → StandsAt key k place xs
+  stands_where_rises k place low [] r h = absurd h
+  stands_where_rises k zero low (x ∷ xs) r h = h
+  stands_where_rises k (suc place) low (x ∷ xs) r h =
+      let a : key x + 1 ≤ k = key_at_is_least k place (key x + 1) xs r.1 h in
+      (omega arith, stands_where_rises k place (key x + 1) xs r.1 h)
 
   -- ---- a binary search
 

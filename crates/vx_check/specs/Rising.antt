@@ -25,6 +25,12 @@ StandsAt key k place [] = ⊥
 StandsAt key k zero (x ∷ xs) = key x ≡ k
 StandsAt key k (suc place) (x ∷ xs) = (key x < k) × StandsAt key k place xs
 
+-- the item at this place has the key
+abbrev pub HasKeyAt : {X : Type 0} → (X → ℕ) → ℕ → ℕ → List X → Type 0
+HasKeyAt key k place [] = ⊥
+HasKeyAt key k zero (x ∷ xs) = key x ≡ k
+HasKeyAt key k (suc place) (x ∷ xs) = HasKeyAt key k place xs
+
 -- no item has the key, and one that has it would stand at this place
 abbrev pub FitsAt : {X : Type 0} → (X → ℕ) → ℕ → ℕ → List X → Type 0
 FitsAt key k zero [] = Unit {0}

@@ -1,8 +1,8 @@
 //! The series of one expiry, in rising order of strike.
 
-ghost use Rattle.std.specs.Prelude.{◌≡◌, ◌≤◌, length, None, IfOk, OnOk, OnErr};
+ghost use Rattle.std.specs.Prelude.{◌≡◌, ◌≤◌, ◌↔◌, IsTrue, length, None, IfOk, OnOk, OnErr};
 ghost use Rattle.vx_feed.specs.Same.{is_same_side};
-ghost use Rattle.vx_check.specs.Rising.{Rises, IsPlaceOfKey, IsPlaceFrom, IsPlaceWithin, item_at};
+ghost use Rattle.vx_check.specs.Rising.{Rises, HasKeyAt, IsPlaceOfKey, IsPlaceFrom, IsPlaceWithin, item_at};
 ghost use Rattle.vx_check.specs.Tables.{row_strike, half_strike, joined, row_with_price, half_with_price, is_listed_in_table};
 ghost use Rattle.vx_check.specs.Tables.{AreRising, IsEmptyTable, IsSameTable, ListsInTable, PutsRow, SetsHalfPrice};
 ghost use Rattle.vx_check.specs.Tables.{SetsPriceInTable, SetsTradeInTable};
@@ -27,6 +27,9 @@ pub struct Table {
     rows: Vec<StrikeRow>,
     halves: Vec<Half>,
     trades: Vec<FirstTrades>,
+    /// Where a price of a row was last set: a quote is mostly of this strike or of one beside it. It
+    /// says nothing of the table.
+    last: usize,
 }
 
 /// A strike of which one side is listed.
@@ -47,6 +50,7 @@ impl Table {
             rows: Vec::new(alloc),
             halves: Vec::new(alloc),
             trades: Vec::new(alloc),
+            last: 0,
         }
     }
 
@@ -84,8 +88,11 @@ impl Table {
     pub fn set_price(&mut self, side: Side, strike: u32, price: Price)
         ensures { SetsPriceInTable side strike price self.old self.new }
     {
-        match place_of_row(self.rows.as_slice(), strike) {
-            Ok(place) => self.rows[place] = row_with_price(self.rows[place], side, price),
+        match place_near(self.rows.as_slice(), strike, self.last) {
+            Ok(place) => {
+                self.rows[place] = row_with_price(self.rows[place], side, price);
+                self.last = place;
+            }
             Err(_) => set_half(&mut self.halves, side, strike, price),
         }
     }
@@ -141,13 +148,39 @@ fn is_of_side(half: Half, side: Side) -> bool
     half.side == side
 }
 
+/// The place of a strike's row, or where it would stand. It is looked for at the last place and on both
+/// sides of it, and only then among all rows.
+fn place_near(rows: &[StrikeRow], strike: u32, last: usize) -> Result<usize, usize>
+    ensures within { IsPlaceWithin rows.now result }
+    ensures place { IsPlaceOfKey row_strike strike rows.now result }
+{
+    let next = last.saturating_add(1);
+    let before = last.saturating_sub(1);
+    if has_strike(rows, last, strike) {
+        Ok(last)
+    } else if has_strike(rows, next, strike) {
+        Ok(next)
+    } else if has_strike(rows, before, strike) {
+        Ok(before)
+    } else {
+        place_of_row(rows, strike)
+    }
+}
+
+/// Whether there is a row at a place, and it is the strike's.
+fn has_strike(rows: &[StrikeRow], place: usize, strike: u32) -> bool
+    ensures { IsTrue result ↔ HasKeyAt row_strike strike place rows.now }
+{
+    place < rows.len() && rows[place].strike == strike
+}
+
 /// The place of a strike's row, or where it would stand.
 fn place_of_row(rows: &[StrikeRow], strike: u32) -> Result<usize, usize>
     ensures within { IsPlaceWithin rows.now result }
     ensures place { IsPlaceOfKey row_strike strike rows.now result }
 {
     let place = first_row_from(rows, strike);
-    if place < rows.len() && rows[place].strike == strike {
+    if has_strike(rows, place, strike) {
         Ok(place)
     } else {
         Err(place)

@@ -9,6 +9,6 @@ returns-in-Some c =
     let tables = c.args.tables.now in
     let place = c.in-Some.place in
     let old = get_or tables place c.index-tables-place.result in
-    let new : Table = record { expiry = old.expiry; rate = Some (to_z w32 (of_z w32 c.args.rate)); rows = old.rows; halves = old.halves; trades = old.trades } in
+    let new : Table = record old { rate = Some (to_z w32 (of_z w32 c.args.rate)) } in
     changed_at c.args.expiry (SetsRate c.args.rate) place tables old new c.in-Some.ensures.first (ap (get_or tables place) c.index-tables-place.is) refl
     (record { expiry = refl; rate_is = ap Some (to_z-of_z c.ranges.rate); rows = refl; halves = refl; trades = refl })
