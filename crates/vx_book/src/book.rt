@@ -37,6 +37,9 @@ pub struct Book {
     // One for each expiry that was declared before the opening, in the same order.
     opening: Vec<OpeningTerm>,
     series: IndexMap<Symbol, Series>,
+    // The place, in order of listing, of the series that was quoted last: the next quote is mostly of the
+    // one behind it. It says nothing of the events.
+    last: usize,
     alloc: Global,
 }
 
@@ -53,6 +56,7 @@ impl Book {
             tables: Vec::with_capacity(alloc, EXPIRIES_MAX)?,
             opening: Vec::new(alloc),
             series: IndexMap::new(alloc),
+            last: 0,
             alloc,
         })
     }
@@ -182,9 +186,10 @@ impl Book {
         ensures taken { OnOk result (TakesQuote self.old symbol.now price self.new) }
         ensures refused { OnErr result (StandsStill self.old self.new) }
     {
-        let Some(one) = series::find(&self.series, symbol) else {
+        let Some((place, one)) = series::find_near(&self.series, symbol, self.last) else {
             return Ok(());
         };
+        self.last = place;
         match one.place {
             Place::Row(number) => {
                 self.tables[one.expiry].set_price(number, symbol.side, price);

@@ -1,6 +1,6 @@
 //! What is kept of each listed series, found by its symbol.
 
-ghost use Rattle.std.specs.Prelude.{◌≡◌, ◌<◌, IsSome, IsOk, OnOk, OnErr};
+ghost use Rattle.std.specs.Prelude.{◌≡◌, ◌<◌, Some, IfSome, IsSome, IsOk, OnOk, OnErr, option_map};
 ghost use Rattle.indexmap.specs.IndexMap.{spare};
 ghost use Rattle.vx_feed.specs.Listed as listed;
 ghost use Rattle.vx_book.specs.Series.{kept, SetsSeries, IsSameSeries};
@@ -36,6 +36,33 @@ pub fn find(series: &IndexMap<Symbol, Series>, symbol: &Symbol) -> Option<Series
     ensures { result ≡ kept series.now symbol.now }
 {
     series.get(symbol).copied()
+}
+
+/// What is kept of a series, where it is listed, and its place in order of listing, from 0. The place
+/// behind the one found last is tried first, since it needs no hash.
+#[inline(always)]
+pub fn find_near(
+    series: &IndexMap<Symbol, Series>,
+    symbol: &Symbol,
+    last: usize,
+) -> Option<(usize, Series)>
+    ensures { option_map (λ found. found.1) result ≡ kept series.now symbol.now }
+{
+    let next = last.wrapping_add(1);
+    if let Some(one) = find_at(series, symbol, next) {
+        return Some((next, one));
+    }
+    let (place, _, one) = series.get_full(symbol)?;
+    Some((place, *one))
+}
+
+/// What is kept of a series, where it stands at this place.
+#[inline(always)]
+fn find_at(series: &IndexMap<Symbol, Series>, symbol: &Symbol, place: usize) -> Option<Series>
+    ensures { IfSome result (λ one. kept series.now symbol.now ≡ Some one) }
+{
+    let (there, one) = series.get_index(place)?;
+    if *there == *symbol { Some(*one) } else { None }
 }
 
 /// Keeps this of a series. It takes memory only for one of which nothing is kept yet, and no more than
