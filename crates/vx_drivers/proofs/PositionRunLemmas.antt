@@ -1,5 +1,6 @@
 -- A run that settles positions, from its start to its end.
-use Rattle.std.proofs.Common.{◌≡◌, ◌≢◌, ◌==◌, ◌∙◌, sym, ap, subst, refl, ℕ, ◌+◌, ◌-◌, ◌<◌, ◌≤◌, ◌⊎◌, inl, inr, Bool, true, false, List, [], ◌∷◌, ◌++◌, length, take, drop, get_or, Option, Some, None, IfSome, arith, Result, Ok, Err}
+use Rattle.std.proofs.Common.{◌≡◌, ◌≢◌, ◌==◌, ◌∙◌, sym, ap, subst, refl, ℕ, ◌+◌, ◌-◌, ◌<◌, ◌≤◌, ◌⊎◌, inl, inr, Bool, true, false, List, [], ◌∷◌, ◌++◌, length, take, drop, get_or, arith}
+use Rattle.std.proofs.Common.{IfErr, IfSome, OnOk, Option, Some, None, Result, Ok, Err}
 use Rattle.std.specs.Option.{option_map}
 use Rattle.std.proofs.lemmas.List.{append-nil, append_assoc, take-append-drop}
 use Rattle.std.proofs.lemmas.Bool.Decides.{nat_tests}
@@ -18,8 +19,8 @@ use Rattle.vx_blocks.specs.declared.split_lines.SplitLines.{SplitLines}
 use Rattle.vx_blocks.specs.declared.split_lines.Rest.{Rest}
 use Rattle.vx_blocks.specs.declared.split_lines.Rest.TheVariants.{More, End, Unsplit, TooLong, NoEol}
 use Rattle.vx_blocks.specs.SplitLines.{IsFresh, IsRestAfter, behind, has_line, lines_coming}
-use Rattle.vx_blocks.specs.Given.{HasGiven, TakesLine, WereRead}
-use Rattle.vx_blocks.proofs.ComingLemmas.{none_at_hand}
+use Rattle.vx_blocks.specs.Given.{HasGiven, TakesNextLine, WereRead}
+use Rattle.vx_blocks.proofs.ComingLemmas.{coming_kept, none_at_hand}
 use Rattle.vx_blocks.proofs.FreshLemmas.{fresh_coming}
 use Rattle.vx_blocks.proofs.GivenLemmas.{given_kept}
 use Rattle.vx_blocks.proofs.TakeLemmas.{takes_next}
@@ -39,10 +40,10 @@ use Rattle.vx_drivers.specs.Along.{Along}
 use Rattle.vx_drivers.specs.Exits.{exit_of_stop, is_cut}
 use Rattle.vx_drivers.specs.Held.{Held, held_by}
 use Rattle.vx_drivers.specs.PositionExits.{IsPositionExit}
-use Rattle.vx_drivers.specs.PositionLines.{IsPositionLines, StopsReading, bad_behind as cause_behind}
-use Rattle.vx_drivers.specs.PositionRun.{GivesPositionParts, NextIsBad, PositionRules, RunsPositionsBy, RunsPositionsIf, Settles, items_from, positions_of, settled_text}
-use Rattle.vx_drivers.specs.PositionSteps.{AddsItem, HasEndedPositions, HasOpened, IsSettling, IsThroughPositions, OpensSheet, SendsItem, SettlesLine, SettlesLinesRead, allowed_positions, positions_told}
-use Rattle.vx_drivers.specs.Sending.{Begins, CutsOff, Sent, SendsOr, Text}
+use Rattle.vx_drivers.specs.PositionLines.{IsPositionLines, ReadsPositionsOn, StopsReading, bad_behind as cause_behind}
+use Rattle.vx_drivers.specs.PositionRun.{GivesPositionParts, NextIsBad, PositionRules, RunsPositionsBy, RunsPositionsIf, ComesToOneMore, items_from, positions_of, settled_text}
+use Rattle.vx_drivers.specs.PositionSteps.{AddsItem, EndsAllSent, HasEndedPositions, HasOpened, IsReady, IsSettling, IsThroughPositions, KeepsItem, OpensSheet, SettlesLine, SettlesLinesRead, allowed_positions, positions_told}
+use Rattle.vx_drivers.specs.Sending.{Begins, CutsOff, Sent, Text}
 use Rattle.vx_drivers.specs.TickSteps.{CutsBoth}
 use Rattle.vx_drivers.proofs.AlongLemmas.{along_more}
 use Rattle.vx_drivers.proofs.ExitLemmas.{bad_not_cut, done_not_cut, memory_not_side, write_is_fault, write_not_side}
@@ -86,6 +87,11 @@ next_left : (rest new : Option TextLines) (text : List ℕ) (after : Left new) �
 next_left rest None text after is = subst (λ o. IfSome o (λ r. r ≡ line_then text after.left)) (sym is) tt
 next_left rest (Some r) text after is =
     subst (λ o. IfSome o (λ t. t ≡ line_then text after.left)) (sym is) (ap (line_then text) after.left_is)
+
+-- lines that are read ahead are to come as they were, as many as there may be
+pub allowed_kept : (count : ℕ) (old new : SplitLines) (before after : Slot → Told) → lines_coming new after ≡ lines_coming old before
+    → allowed_positions count old before ≡ allowed_positions count new after
+allowed_kept count old new before after same = ap (option_map (at_most (POSITION_LINES_MAX - count))) (sym same)
 
 -- ---- the texts
 
@@ -172,7 +178,7 @@ module _ {A I : Type 0} (rules : PositionRules A I) where
   -- first parts of what the opening and some lines give
   gives_part : (events : List Event) (answer : A) (items : List I) (lines : List (List ℕ)) (left : TextLines) (last out out_more certs certs_more : Text)
       (exit : Exit)
-      → rules.IsOpening events answer → Along (Settles rules answer) [] lines items
+      → rules.IsOpening events answer → Along (ComesToOneMore rules answer) [] lines items
       → (last ≡ []) ⊎ ((left ≡ ended at_end) × (last ≡ rules.last_lines answer items))
       → out ++ out_more ≡ settled_text rules answer items ++ last → certs ++ certs_more ≡ rules.certificate answer
       → (out ≡ []) ⊎ (certs_more ≡ []) → is_cut exit ≡ true
@@ -200,7 +206,7 @@ module _ {A I : Type 0} (rules : PositionRules A I) where
   lines_settled : (held : Held) (feed : Option Reading) (positions : Option TextLines) (now : Slot → Told) (exit : Exit) (events : List Event) (answer : A)
       (items : List I)
       (lines : List (List ℕ)) → Says feed (all_good events) → EventsRead events held.feed (now Feed) → rules.IsOpening events answer
-      → Along (Settles rules answer) [] lines items → StopsReading lines held.side (now Side) exit
+      → Along (ComesToOneMore rules answer) [] lines items → StopsReading lines held.side (now Side) exit
       → SettlesLinesRead rules held feed positions now exit (settled_text rules answer items) (rules.certificate answer)
   lines_settled held feed positions now exit events answer items lines says read opening steps stops = record {
     events = events;
@@ -225,7 +231,7 @@ module _ {A I : Type 0} (rules : PositionRules A I) where
       (answer : A)
       (items : List I) (lines : List (List ℕ)) (last out certs : Text) → exit ≡ WriteFault slot → Says feed (all_good events)
       → EventsRead events held.feed (now Feed)
-      → rules.IsOpening events answer → Along (Settles rules answer) [] lines items → WereRead lines held.side (now Side)
+      → rules.IsOpening events answer → Along (ComesToOneMore rules answer) [] lines items → WereRead lines held.side (now Side)
       → (last ≡ []) ⊎ (IfSome positions (λ told. told ≡ lines_then lines (ended at_end)) × (last ≡ rules.last_lines answer items))
       → Begins out (settled_text rules answer items ++ last) → Begins certs (rules.certificate answer)
       → SettlesLinesRead rules held feed positions now exit out certs
@@ -251,30 +257,22 @@ module _ {A I : Type 0} (rules : PositionRules A I) where
     -- ---- one line
 
     -- a line that is no position ends the run
-    pub fault_ends : (answer : A) (items : List I) (text : List ℕ) (told : Told) (run : PositionRun S) (count : ℕ) (fault : PositionFault) (exit : Exit)
+    pub fault_ends : (answer : A) (items : List I) (text : List ℕ) (old run : PositionRun S) (count : ℕ) (fault : PositionFault) (exit : Exit)
         → count ≡ length items → exit ≡ BadPositions (count + 1) (cause.Fault fault) → rules.ComesTo answer text (Err fault)
-        → SettlesLine rules StandsAt answer items text run told told (Err exit)
-    fault_ends answer items text told run count fault exit same exit_is comes = inl (
-      inr (record { fault = fault; exit_is = exit_is ∙ ap (λ n. BadPositions (n + 1) (cause.Fault fault)) same; comes = comes }),
-      refl,
-    )
+        → SettlesLine rules StandsAt answer items text old run (Err exit)
+    fault_ends answer items text old run count fault exit same exit_is comes =
+        inr (record { fault = fault; exit_is = exit_is ∙ ap (λ n. BadPositions (n + 1) (cause.Fault fault)) same; comes = comes })
 
-    -- what the output says of a line is sent, or a first part of it
-    pub item_sent : (answer : A) (items : List I) (text : List ℕ) (line : Text) (sheet : S) (run : PositionRun S) (before after : Told)
-        (result : Result Unit Exit)
-        → AddsItem rules StandsAt answer items text line sheet → run.sheet ≡ sheet → SendsOr Out line before after result
-        → SettlesLine rules StandsAt answer items text run before after result
-    item_sent answer items text line sheet run before after (Ok u) adds sheet_is sends = record {
+    -- what the output says of a line is kept to be sent
+    pub item_kept : (answer : A) (items : List I) (text : List ℕ) (line : Text) (sheet : S) (old run : PositionRun S)
+        → AddsItem rules StandsAt answer items text line sheet → run.sheet ≡ sheet → run.unsent.items ≡ old.unsent.items ++ line
+        → KeepsItem rules StandsAt answer items text old run
+    item_kept answer items text line sheet old run adds sheet_is unsent = record {
       item = adds.item;
       comes = adds.comes;
       stands = subst (λ (s : S). StandsAt s answer (items ++ adds.item ∷ [])) (sym sheet_is) adds.stands;
-      sent = subst (λ (t : Text). Sent t before after) adds.line_is sends;
+      unsent = unsent ∙ ap (λ (t : Text). old.unsent.items ++ t) adds.line_is;
     }
-    item_sent answer items text line sheet run before after (Err exit) adds sheet_is sends = inr (record {
-      item = adds.item;
-      comes = adds.comes;
-      cut = subst (λ (t : Text). CutsOff Out t before after exit) adds.line_is sends;
-    })
 
     -- ---- the opening
 
@@ -334,8 +332,8 @@ module _ {A I : Type 0} (rules : PositionRules A I) where
         (before read now : Slot → Told) → Says feed (all_good events) → EventsRead events held (now Feed)
         → OpensSheet rules StandsAt events certificate line sheet
         → read Out ≡ before Out → read Certs ≡ before Certs → Sent certificate (read Certs) (now Certs) → Sent line (read Out) (now Out)
-        → run.sheet ≡ sheet → run.count ≡ 0 → HasOpened rules StandsAt held feed before run now
-    opening_sent held feed events certificate line sheet run before read now says were_read opens out_same certs_same certs_sent out_sent sheet_is zero = record {
+        → run.sheet ≡ sheet → run.count ≡ 0 → run.unsent.items ≡ [] → HasOpened rules StandsAt held feed before run now
+    opening_sent held feed events certificate line sheet run before read now says were_read opens out_same certs_same certs_sent out_sent sheet_is zero none = record {
       events = events;
       feed_is = says;
       events_read = were_read;
@@ -343,6 +341,7 @@ module _ {A I : Type 0} (rules : PositionRules A I) where
       is_opening = opens.is_opening;
       sheet = subst (λ (s : S). StandsAt s opens.answer []) (sym sheet_is) opens.stands;
       count = zero;
+      unsent = none;
       certs = subst (λ (t : Text). Sent t (before Certs) (now Certs)) opens.certificate_is
           (subst (λ (t : Told). Sent certificate t (now Certs)) certs_same certs_sent);
       out = subst (λ (t : Text). Sent t (before Out) (now Out)) opens.line_is (subst (λ (t : Told). Sent line t (now Out)) out_same out_sent);
@@ -368,7 +367,10 @@ module _ {A I : Type 0} (rules : PositionRules A I) where
       sheet = opened.sheet;
       count = opened.count;
       certs = opened.certs;
-      out = subst (λ (t : Text). Sent t (before Out) (now Out)) (sym (settled_none opened.answer)) opened.out;
+      sent = rules.line opened.answer;
+      text_is = settled_none opened.answer ∙ sym (append-nil (rules.line opened.answer))
+          ∙ ap (λ (t : Text). rules.line opened.answer ++ t) (sym opened.unsent);
+      out = opened.out;
     }
 
     module _ (held : Held) (feed : Option Reading) (positions : Option TextLines) (before : Slot → Told) where
@@ -385,54 +387,74 @@ module _ {A I : Type 0} (rules : PositionRules A I) where
       still_given lines ahead between now slot same given =
           given_read lines held.side ahead now slot (given_kept lines held.side ahead between now (side_kept ahead between now slot same) given)
 
-      -- the output and the file of certificates did not change
-      pub way_kept : (run : PositionRun S) (old ahead : SplitLines) (between now : Slot → Told) (rest : Option TextLines)
-          (way : IsSettling rules StandsAt held feed positions before run old between rest) → now Feed ≡ between Feed → now Out ≡ between Out
-          → now Certs ≡ between Certs → ahead.lines.slot ≡ Side
-          → HasGiven way.lines held.side ahead now → IsSettling rules StandsAt held feed positions before run ahead now rest
-      way_kept run old ahead between now rest way feed_same out_same certs_same slot given = record {
-        events = way.events;
-        feed_is = way.feed_is;
-        events_read = still_read way.events between now way.events_read feed_same;
-        answer = way.answer;
-        is_opening = way.is_opening;
-        items = way.items;
-        lines = way.lines;
-        are_first = way.are_first;
-        slot = slot;
-        lines_read = given;
-        steps = way.steps;
-        sheet = way.sheet;
-        count = way.count;
-        certs = sent_still (rules.certificate way.answer) (before Certs) (between Certs) (now Certs) way.certs certs_same;
-        out = sent_still (settled_text rules way.answer way.items) (before Out) (between Out) (now Out) way.out out_same;
-      }
+      -- where nothing is unsent there is nothing to send
+      pub none_unsent : (run : PositionRun S) (now : Slot → Told) → run.unsent.items ≡ [] → Sent run.unsent.items (now Out) (now Out)
+      none_unsent run now none = subst (λ (t : Text). Sent t (now Out) (now Out)) (sym none) (sent_none (now Out) (now Out) refl)
+
+      -- what was unsent is sent, so that all is
+      pub all_sent : (run : PositionRun S) (ahead : SplitLines) (between now : Slot → Told) (rest : Option TextLines)
+          (way : IsSettling rules StandsAt held feed positions before run ahead between rest) → Sent run.unsent.items (between Out) (now Out)
+          → Sent (settled_text rules way.answer way.items) (before Out) (now Out)
+      all_sent run ahead between now rest way sent =
+          subst (λ (t : Text). Sent t (before Out) (now Out)) (sym way.text_is)
+          (sent_more way.sent run.unsent.items (before Out) (between Out) (now Out) way.out sent)
+
+      -- and nothing is unsent, nor did the file of certificates change
+      pub way_sent : (run new : PositionRun S) (old ahead : SplitLines) (between now : Slot → Told) (rest : Option TextLines)
+          (way : IsSettling rules StandsAt held feed positions before run old between rest) → now Feed ≡ between Feed
+          → now Certs ≡ between Certs → ahead.lines.slot ≡ Side → HasGiven way.lines held.side ahead now
+          → new.sheet ≡ run.sheet → new.count ≡ run.count → new.unsent.items ≡ [] → Sent run.unsent.items (between Out) (now Out)
+          → IsSettling rules StandsAt held feed positions before new ahead now rest
+      way_sent run new old ahead between now rest way feed_same certs_same slot given sheet_same count_same none sent =
+          let text = settled_text rules way.answer way.items in
+          record {
+            events = way.events;
+            feed_is = way.feed_is;
+            events_read = still_read way.events between now way.events_read feed_same;
+            answer = way.answer;
+            is_opening = way.is_opening;
+            items = way.items;
+            lines = way.lines;
+            are_first = way.are_first;
+            slot = slot;
+            lines_read = given;
+            steps = way.steps;
+            sheet = subst (λ (s : S). StandsAt s way.answer way.items) (sym sheet_same) way.sheet;
+            count = count_same ∙ way.count;
+            certs = sent_still (rules.certificate way.answer) (before Certs) (between Certs) (now Certs) way.certs certs_same;
+            sent = text;
+            text_is = sym (append-nil text) ∙ ap (λ (t : Text). text ++ t) (sym none);
+            out = all_sent run old between now rest way sent;
+          }
 
       -- the next line is settled
-      pub settled_on : (old run : PositionRun S) (from ahead : SplitLines) (between now : Slot → Told) (rest new : Option TextLines) (text : List ℕ)
-          (way : IsSettling rules StandsAt held feed positions before old from between rest) → rest ≡ option_map (line_then text) new → now Feed ≡ between Feed
-          → now Certs ≡ between Certs → ahead.lines.slot ≡ Side → HasGiven (way.lines ++ text ∷ []) held.side ahead now
-          → run.count ≡ old.count + 1 → SendsItem rules StandsAt way.answer way.items text run (between Out) (now Out)
+      pub settled_on : (old run : PositionRun S) (from ahead : SplitLines) (now : Slot → Told) (rest new : Option TextLines) (text : List ℕ)
+          (way : IsSettling rules StandsAt held feed positions before old from now rest) → rest ≡ option_map (line_then text) new
+          → ahead.lines.slot ≡ Side → HasGiven (way.lines ++ text ∷ []) held.side ahead now
+          → run.count ≡ old.count + 1 → KeepsItem rules StandsAt way.answer way.items text old run
           → IsSettling rules StandsAt held feed positions before run ahead now new
-      settled_on old run from ahead between now rest new text way is feed_same certs_same slot given more sends = record {
-        events = way.events;
-        feed_is = way.feed_is;
-        events_read = still_read way.events between now way.events_read feed_same;
-        answer = way.answer;
-        is_opening = way.is_opening;
-        items = way.items ++ sends.item ∷ [];
-        lines = way.lines ++ text ∷ [];
-        are_first = first_more positions rest new way.lines text way.are_first is;
-        slot = slot;
-        lines_read = given;
-        steps = along_more (Settles rules way.answer) [] way.lines text way.items (way.items ++ sends.item ∷ []) way.steps (sends.item, sends.comes, refl);
-        sheet = sends.stands;
-        count = more ∙ one_more way.items sends.item way.count;
-        certs = sent_still (rules.certificate way.answer) (before Certs) (between Certs) (now Certs) way.certs certs_same;
-        out = subst (λ (t : Text). Sent t (before Out) (now Out)) (sym (settled_more way.answer way.items sends.item))
-            (sent_more (settled_text rules way.answer way.items) (rules.item_line (length way.items + 1) sends.item) (before Out) (between Out)
-            (now Out) way.out sends.sent);
-      }
+      settled_on old run from ahead now rest new text way is slot given more keeps =
+          let line = rules.item_line (length way.items + 1) keeps.item in
+          record {
+            events = way.events;
+            feed_is = way.feed_is;
+            events_read = way.events_read;
+            answer = way.answer;
+            is_opening = way.is_opening;
+            items = way.items ++ keeps.item ∷ [];
+            lines = way.lines ++ text ∷ [];
+            are_first = first_more positions rest new way.lines text way.are_first is;
+            slot = slot;
+            lines_read = given;
+            steps = along_more (ComesToOneMore rules way.answer) [] way.lines text way.items (way.items ++ keeps.item ∷ []) way.steps (keeps.item, keeps.comes, refl);
+            sheet = keeps.stands;
+            count = more ∙ one_more way.items keeps.item way.count;
+            certs = way.certs;
+            sent = way.sent;
+            text_is = settled_more way.answer way.items keeps.item ∙ ap (λ (t : Text). t ++ line) way.text_is
+                ∙ append_assoc way.sent old.unsent.items line ∙ ap (λ (t : Text). way.sent ++ t) (sym keeps.unsent);
+            out = way.out;
+          }
         where
           one_more : (items : List I) (item : I) → old.count ≡ length items → old.count + 1 ≡ length (items ++ item ∷ [])
           one_more items item is = ap (λ n. n + 1) is ∙ sym (pushed items item)
@@ -443,12 +465,12 @@ module _ {A I : Type 0} (rules : PositionRules A I) where
 
       -- ---- ends
 
-      -- nothing more was sent, and the run is cut off
+      -- what was unsent is sent and nothing more, and the run is cut off
       pub cut_short : (run : PositionRun S) (ahead : SplitLines) (between now : Slot → Told) (rest : Option TextLines) (exit : Exit)
-          (way : IsSettling rules StandsAt held feed positions before run ahead between rest) → now Feed ≡ between Feed → now Out ≡ between Out
-          → now Certs ≡ between Certs
+          (way : IsSettling rules StandsAt held feed positions before run ahead between rest) → now Feed ≡ between Feed
+          → Sent run.unsent.items (between Out) (now Out) → now Certs ≡ between Certs
           → StopsReading way.lines held.side (now Side) exit → is_cut exit ≡ true → HasEndedPositions rules held feed positions before now exit
-      cut_short run ahead between now rest exit way feed_same out_same certs_same stops cut =
+      cut_short run ahead between now rest exit way feed_same sent certs_same stops cut =
           let after = some_left rest in
           let text = settled_text rules way.answer way.items in
           record {
@@ -460,7 +482,7 @@ module _ {A I : Type 0} (rules : PositionRules A I) where
             certs = rules.certificate way.answer;
             runs = gives_part way.events way.answer way.items way.lines after.left [] text [] (rules.certificate way.answer) [] exit
                 way.is_opening way.steps (inl refl) refl (append-nil (rules.certificate way.answer)) (inr refl) cut;
-            out_sent = sent_still text (before Out) (between Out) (now Out) way.out out_same;
+            out_sent = all_sent run ahead between now rest way sent;
             certs_sent = sent_still (rules.certificate way.answer) (before Certs) (between Certs) (now Certs) way.certs certs_same;
             cut = λ is. inr (lines_settled held feed positions now exit way.events way.answer way.items way.lines way.feed_is
                 (still_read way.events between now way.events_read feed_same) way.is_opening way.steps stops);
@@ -469,10 +491,10 @@ module _ {A I : Type 0} (rules : PositionRules A I) where
       -- memory is wanting where nothing more was read
       pub memory_short : (run : PositionRun S) (ahead : SplitLines) (between now : Slot → Told) (rest : Option TextLines) (exit : Exit)
           → IsSettling rules StandsAt held feed positions before run ahead between rest → now Feed ≡ between Feed → now Side ≡ between Side
-          → now Out ≡ between Out
+          → Sent run.unsent.items (between Out) (now Out)
           → now Certs ≡ between Certs → exit ≡ WantsMemory → HasEndedPositions rules held feed positions before now exit
-      memory_short run ahead between now rest exit way feed_same side_same out_same certs_same is =
-          cut_short run ahead between now rest exit way feed_same out_same certs_same
+      memory_short run ahead between now rest exit way feed_same side_same sent certs_same is =
+          cut_short run ahead between now rest exit way feed_same sent certs_same
           (record {
             were_read = still_given way.lines ahead between now way.slot side_same way.lines_read;
             cut = λ failed. memory_not_side (sym is ∙ failed);
@@ -481,10 +503,11 @@ module _ {A I : Type 0} (rules : PositionRules A I) where
       -- the next line is bad
       bad_end : (run : PositionRun S) (ahead : SplitLines) (between now : Slot → Told) (rest : Option TextLines) (left : TextLines) (number : ℕ)
           (why : PositionCause)
-          (way : IsSettling rules StandsAt held feed positions before run ahead between rest) → now Out ≡ between Out → now Certs ≡ between Certs
+          (way : IsSettling rules StandsAt held feed positions before run ahead between rest) → Sent run.unsent.items (between Out) (now Out)
+          → now Certs ≡ between Certs
           → number ≡ length way.items + 1 → IfSome rest (λ r. r ≡ left) → NextIsBad rules way.answer left why
           → HasEndedPositions rules held feed positions before now (BadPositions number why)
-      bad_end run ahead between now rest left number why way out_same certs_same numbered is bad =
+      bad_end run ahead between now rest left number why way sent certs_same numbered is bad =
           let text = settled_text rules way.answer way.items in
           record {
             over = all_good way.events;
@@ -503,7 +526,7 @@ module _ {A I : Type 0} (rules : PositionRules A I) where
               out_is = sym (append-nil text);
               certs_are = refl;
             };
-            out_sent = sent_still text (before Out) (between Out) (now Out) way.out out_same;
+            out_sent = all_sent run ahead between now rest way sent;
             certs_sent = sent_still (rules.certificate way.answer) (before Certs) (between Certs) (now Certs) way.certs certs_same;
             cut = λ is. absurd (let no : ⊥ = cc in no);
           }
@@ -511,58 +534,97 @@ module _ {A I : Type 0} (rules : PositionRules A I) where
       -- it is no line, or one too many
       pub line_bad : (run : PositionRun S) (ahead : SplitLines) (between now : Slot → Told) (rest : Option TextLines) (left : TextLines) (exit : Exit)
           (why : PositionCause)
-          → IsSettling rules StandsAt held feed positions before run ahead between rest → now Out ≡ between Out → now Certs ≡ between Certs
+          → IsSettling rules StandsAt held feed positions before run ahead between rest → Sent run.unsent.items (between Out) (now Out)
+          → now Certs ≡ between Certs
           → exit ≡ BadPositions (run.count + 1) why → IfSome rest (λ r. r ≡ left) → ((answer : A) → NextIsBad rules answer left why)
           → HasEndedPositions rules held feed positions before now exit
-      line_bad run ahead between now rest left exit why way out_same certs_same exit_is is bad =
+      line_bad run ahead between now rest left exit why way sent certs_same exit_is is bad =
           subst (λ (e : Exit). HasEndedPositions rules held feed positions before now e) (sym exit_is)
-          (bad_end run ahead between now rest left (run.count + 1) why way out_same certs_same (ap (λ n. n + 1) way.count) is (bad way.answer))
+          (bad_end run ahead between now rest left (run.count + 1) why way sent certs_same (ap (λ n. n + 1) way.count) is (bad way.answer))
 
-      -- the run ended at a line
-      pub line_ended : (old run : PositionRun S) (ahead : SplitLines) (between now : Slot → Told) (rest new : Option TextLines) (text : List ℕ) (exit : Exit)
-          (way : IsSettling rules StandsAt held feed positions before old ahead between rest) → rest ≡ option_map (line_then text) new → now Feed ≡ between Feed
-          → now Side ≡ between Side → now Certs ≡ between Certs → WereRead (way.lines ++ text ∷ []) held.side (now Side)
-          → SettlesLine rules StandsAt way.answer way.items text run (between Out) (now Out) (Err exit)
-          → HasEndedPositions rules held feed positions before now exit
-      line_ended old run ahead between now rest new text exit way is feed_same side_same certs_same read (inl (inl wants, same)) =
-          memory_short old ahead between now rest exit way feed_same side_same same certs_same wants
-      line_ended old run ahead between now rest new text exit way is feed_same side_same certs_same read (inl (inr h, same)) =
-          let after = some_left new in
-          subst (λ (e : Exit). HasEndedPositions rules held feed positions before now e) (sym h.exit_is)
-          (bad_end old ahead between now rest (line_then text after.left) (length way.items + 1) (cause.Fault h.fault) way same certs_same refl
-          (next_left rest new text after is) (text, after.left, refl, h.comes))
-      line_ended old run ahead between now rest new text exit way is feed_same side_same certs_same read (inr h) =
-          let after = some_left new in
-          let line = rules.item_line (length way.items + 1) h.item in
-          let first = settled_text rules way.answer way.items in
-          let items = way.items ++ h.item ∷ [] in
+      -- a write of what was unsent failed
+      pub unsent_cut : (run : PositionRun S) (ahead : SplitLines) (between now : Slot → Told) (rest : Option TextLines) (exit : Exit)
+          (way : IsSettling rules StandsAt held feed positions before run ahead between rest) → now Feed ≡ between Feed → now Side ≡ between Side
+          → now Certs ≡ between Certs → CutsOff Out run.unsent.items (between Out) (now Out) exit → HasEndedPositions rules held feed positions before now exit
+      unsent_cut run ahead between now rest exit way feed_same side_same certs_same cut =
+          let after = some_left rest in
+          let certificate = rules.certificate way.answer in
+          let out = way.sent ++ take cut.part.count run.unsent.items in
+          let more = drop cut.part.count run.unsent.items in
+          let whole : out ++ more ≡ settled_text rules way.answer way.items ++ [] =
+          append_part way.sent run.unsent.items cut.part.count ∙ sym way.text_is ∙ sym (append-nil (settled_text rules way.answer way.items)) in
           record {
             over = all_good way.events;
             feed_is = way.feed_is;
-            lines = lines_then (way.lines ++ text ∷ []) after.left;
-            lines_are = said_first positions new (way.lines ++ text ∷ []) after.left
-                (first_more positions rest new way.lines text way.are_first is) after.left_is;
-            out = first ++ take h.cut.part.count line;
-            certs = rules.certificate way.answer;
-            runs = gives_part way.events way.answer items (way.lines ++ text ∷ []) after.left [] (first ++ take h.cut.part.count line)
-                (drop h.cut.part.count line)
-                (rules.certificate way.answer) [] exit way.is_opening
-                (along_more (Settles rules way.answer) [] way.lines text way.items items way.steps (h.item, h.comes, refl)) (inl refl)
-                (append_part first line h.cut.part.count ∙ sym (settled_more way.answer way.items h.item)
-                ∙ sym (append-nil (settled_text rules way.answer items)))
-                (append-nil (rules.certificate way.answer)) (inr refl) (ap is_cut h.cut.exit_is);
-            out_sent = sent_more first (take h.cut.part.count line) (before Out) (between Out) (now Out) way.out h.cut.part.sent;
-            certs_sent = sent_still (rules.certificate way.answer) (before Certs) (between Certs) (now Certs) way.certs certs_same;
-            cut = λ cut. inr (part_settled held feed positions now Out exit way.events way.answer items (way.lines ++ text ∷ []) []
-                (first ++ take h.cut.part.count line)
-                (rules.certificate way.answer) h.cut.exit_is way.feed_is (still_read way.events between now way.events_read feed_same) way.is_opening
-                (along_more (Settles rules way.answer) [] way.lines text way.items items way.steps (h.item, h.comes, refl)) read (inl refl) (
-                  drop h.cut.part.count line,
-                  sym (append_part first line h.cut.part.count ∙ sym (settled_more way.answer way.items h.item)
-                      ∙ sym (append-nil (settled_text rules way.answer items))),
-                )
-                ([], sym (append-nil (rules.certificate way.answer))));
+            lines = lines_then way.lines after.left;
+            lines_are = said_first positions rest way.lines after.left way.are_first after.left_is;
+            out = out;
+            certs = certificate;
+            runs = gives_part way.events way.answer way.items way.lines after.left [] out more certificate [] exit
+                way.is_opening way.steps (inl refl) whole (append-nil certificate) (inr refl) (ap is_cut cut.exit_is);
+            out_sent = sent_more way.sent (take cut.part.count run.unsent.items) (before Out) (between Out) (now Out) way.out cut.part.sent;
+            certs_sent = sent_still certificate (before Certs) (between Certs) (now Certs) way.certs certs_same;
+            cut = λ off. inr (part_settled held feed positions now Out exit way.events way.answer way.items way.lines [] out
+                certificate cut.exit_is way.feed_is (still_read way.events between now way.events_read feed_same) way.is_opening way.steps
+                (still_given way.lines ahead between now way.slot side_same way.lines_read) (inl refl) (more, sym whole)
+                ([], sym (append-nil certificate)));
           }
+
+      -- what was unsent is sent, or a write of it failed, where the next is no line, or one too many
+      pub line_bad_sent : (run : PositionRun S) (ahead : SplitLines) (between now : Slot → Told) (rest : Option TextLines) (left : TextLines)
+          (exit result : Exit) (why : PositionCause)
+          → IsSettling rules StandsAt held feed positions before run ahead between rest → now Feed ≡ between Feed → now Side ≡ between Side
+          → now Certs ≡ between Certs → exit ≡ BadPositions (run.count + 1) why → IfSome rest (λ r. r ≡ left)
+          → ((answer : A) → NextIsBad rules answer left why) → EndsAllSent run.unsent.items (between Out) (now Out) exit result
+          → HasEndedPositions rules held feed positions before now result
+      line_bad_sent run ahead between now rest left exit result why way feed_same side_same certs_same exit_is is bad (inl (same, sent)) =
+          line_bad run ahead between now rest left result why way sent certs_same (same ∙ exit_is) is bad
+      line_bad_sent run ahead between now rest left exit result why way feed_same side_same certs_same exit_is is bad (inr cut) =
+          unsent_cut run ahead between now rest result way feed_same side_same certs_same cut
+
+      -- the same where the run ended at a line
+      pub line_ended : (old run : PositionRun S) (ahead : SplitLines) (between now : Slot → Told) (rest new : Option TextLines) (text : List ℕ)
+          (exit result : Exit)
+          (way : IsSettling rules StandsAt held feed positions before old ahead between rest) → rest ≡ option_map (line_then text) new → now Feed ≡ between Feed
+          → now Side ≡ between Side → now Certs ≡ between Certs
+          → SettlesLine rules StandsAt way.answer way.items text old run (Err exit)
+          → EndsAllSent old.unsent.items (between Out) (now Out) exit result
+          → HasEndedPositions rules held feed positions before now result
+      line_ended old run ahead between now rest new text exit result way is feed_same side_same certs_same (inl wants) (inl (same, sent)) =
+          memory_short old ahead between now rest result way feed_same side_same sent certs_same (same ∙ wants)
+      line_ended old run ahead between now rest new text exit result way is feed_same side_same certs_same (inr h) (inl (same, sent)) =
+          let after = some_left new in
+          subst (λ (e : Exit). HasEndedPositions rules held feed positions before now e) (sym (same ∙ h.exit_is))
+          (bad_end old ahead between now rest (line_then text after.left) (length way.items + 1) (cause.Fault h.fault) way sent certs_same refl
+          (next_left rest new text after is) (text, after.left, refl, h.comes))
+      line_ended old run ahead between now rest new text exit result way is feed_same side_same certs_same settles (inr cut) =
+          unsent_cut old ahead between now rest result way feed_same side_same certs_same cut
+
+      -- ---- between two blocks of lines
+
+      -- what was unsent is sent, and the lines are read on
+      pub read_on_sent : (run new : PositionRun S) (old ahead : SplitLines) (told between now : Slot → Told) (result : Result Unit Exit)
+          → IsSettling rules StandsAt held feed positions before run old told (allowed_positions run.count old told)
+          → between Feed ≡ told Feed → between Side ≡ told Side → between Certs ≡ told Certs → Sent run.unsent.items (told Out) (between Out)
+          → new.sheet ≡ run.sheet → new.count ≡ run.count → new.unsent.items ≡ []
+          → now Feed ≡ between Feed → now Out ≡ between Out → now Certs ≡ between Certs
+          → OnOk result (IsPositionLines ahead) → OnOk result (lines_coming ahead now ≡ lines_coming old between)
+          → ReadsPositionsOn old between ahead now result → IfErr result (λ exit. is_cut exit ≡ true)
+          → IsReady rules StandsAt held feed positions before new ahead now (allowed_positions new.count ahead now) result
+      read_on_sent run new old ahead told between now (Ok u) way feed_sent side_sent certs_sent sent sheet_same count_same none feed_same out_same certs_same lines comes reads cuts =
+          let given = given_kept way.lines held.side old told between (side_kept old told between way.slot side_sent) way.lines_read in
+          let still = comes ∙ coming_kept old told between (side_kept old told between way.slot side_sent) in (
+            subst (λ (o : Option TextLines). IsSettling rules StandsAt held feed positions before new ahead now o)
+                (allowed_kept run.count old ahead told now still ∙ ap (λ n. allowed_positions n ahead now) (sym count_same))
+                (way_sent run new old ahead told now (allowed_positions run.count old told) way (feed_same ∙ feed_sent) (certs_same ∙ certs_sent)
+                lines.slot (reads way.lines held.side given) sheet_same count_same none (sent_still run.unsent.items (told Out) (between Out) (now Out) sent out_same)),
+            λ (h : has_line ahead ≡ false). none,
+          )
+      read_on_sent run new old ahead told between now (Err exit) way feed_sent side_sent certs_sent sent sheet_same count_same none feed_same out_same certs_same lines comes reads cuts =
+          let given = given_kept way.lines held.side old told between (side_kept old told between way.slot side_sent) way.lines_read in
+          cut_short run old told now (allowed_positions run.count old told) exit way (feed_same ∙ feed_sent)
+          (sent_still run.unsent.items (told Out) (between Out) (now Out) sent out_same) (certs_same ∙ certs_sent)
+          (reads way.lines held.side given) cuts
 
       -- ---- behind the last line
 
@@ -570,14 +632,15 @@ module _ {A I : Type 0} (rules : PositionRules A I) where
       pub last_wanting : (run : PositionRun S) (now : Slot → Told) (exit : Exit) → IsThroughPositions rules StandsAt held feed positions before run now
           → exit ≡ WantsMemory
           → HasEndedPositions rules held feed positions before now exit
-      last_wanting run now exit (ahead, rest, way, none) wants = memory_short run ahead now now rest exit way refl refl refl refl wants
+      last_wanting run now exit (ahead, rest, way, none, all) wants =
+          memory_short run ahead now now rest exit way refl refl (none_unsent run now all) refl wants
 
       -- they are sent
       pub last_sent : (run : PositionRun S) (between now : Slot → Told) (text : Text)
           (through : IsThroughPositions rules StandsAt held feed positions before run between)
           → now Certs ≡ between Certs → text ≡ rules.last_lines through.2.answer through.2.items → Sent text (between Out) (now Out)
           → HasEndedPositions rules held feed positions before now Done
-      last_sent run between now text (ahead, rest, way, none) certs_same is sent =
+      last_sent run between now text (ahead, rest, way, none, all) certs_same is sent =
           let first = settled_text rules way.answer way.items in
           let last = rules.last_lines way.answer way.items in
           record {
@@ -597,7 +660,8 @@ module _ {A I : Type 0} (rules : PositionRules A I) where
               out_is = refl;
               certs_are = refl;
             };
-            out_sent = sent_more first last (before Out) (between Out) (now Out) way.out (subst (λ (t : Text). Sent t (between Out) (now Out)) is sent);
+            out_sent = sent_more first last (before Out) (between Out) (now Out)
+                (all_sent run ahead between between rest way (none_unsent run between all)) (subst (λ (t : Text). Sent t (between Out) (now Out)) is sent);
             certs_sent = sent_still (rules.certificate way.answer) (before Certs) (between Certs) (now Certs) way.certs certs_same;
             cut = λ cut. done_not_cut cut;
           }
@@ -607,7 +671,7 @@ module _ {A I : Type 0} (rules : PositionRules A I) where
           (through : IsThroughPositions rules StandsAt held feed positions before run between)
           → now Feed ≡ between Feed → now Side ≡ between Side → now Certs ≡ between Certs → text ≡ rules.last_lines through.2.answer through.2.items
           → CutsOff Out text (between Out) (now Out) exit → HasEndedPositions rules held feed positions before now exit
-      last_cut run between now text exit (ahead, rest, way, none) feed_same side_same certs_same is cut =
+      last_cut run between now text exit (ahead, rest, way, none, all) feed_same side_same certs_same is cut =
           let first = settled_text rules way.answer way.items in
           let last = rules.last_lines way.answer way.items in
           record {
@@ -620,7 +684,8 @@ module _ {A I : Type 0} (rules : PositionRules A I) where
             runs = gives_part way.events way.answer way.items way.lines (ended at_end) last (first ++ take cut.part.count last) (drop cut.part.count last)
                 (rules.certificate way.answer) [] exit way.is_opening way.steps (inr (refl, refl)) (append_part first last cut.part.count)
                 (append-nil (rules.certificate way.answer)) (inr refl) (ap is_cut cut.exit_is);
-            out_sent = sent_more first (take cut.part.count last) (before Out) (between Out) (now Out) way.out
+            out_sent = sent_more first (take cut.part.count last) (before Out) (between Out) (now Out)
+                (all_sent run ahead between between rest way (none_unsent run between all))
                 (subst (λ (t : Text). Sent (take cut.part.count t) (between Out) (now Out)) is cut.part.sent);
             certs_sent = sent_still (rules.certificate way.answer) (before Certs) (between Certs) (now Certs) way.certs certs_same;
             cut = λ off. inr (part_settled held feed positions now Out exit way.events way.answer way.items way.lines last (first ++ take cut.part.count last)
@@ -632,13 +697,8 @@ module _ {A I : Type 0} (rules : PositionRules A I) where
 
 -- ---- as many lines as there may be
 
--- lines that are read ahead are to come as they were
-pub allowed_kept : (count : ℕ) (old new : SplitLines) (before after : Slot → Told) → lines_coming new after ≡ lines_coming old before
-    → allowed_positions count old before ≡ allowed_positions count new after
-allowed_kept count old new before after same = ap (option_map (at_most (POSITION_LINES_MAX - count))) (sym same)
-
 -- the next line, of those that there may be
-pub allowed_step : (count more : ℕ) (fields : List (List ℕ)) (old new : SplitLines) (before after : Slot → Told) (takes : TakesLine fields old new)
+pub allowed_step : (count more : ℕ) (fields : List (List ℕ)) (old new : SplitLines) (before after : Slot → Told) (takes : TakesNextLine fields old new)
     → new.lines.slot ≡ Side → after Side ≡ before Side → more ≡ count + 1 → count < POSITION_LINES_MAX
     → allowed_positions count old before ≡ option_map (line_then takes.line) (allowed_positions more new after)
 allowed_step count more fields old new before after takes slot same size few =

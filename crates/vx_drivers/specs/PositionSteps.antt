@@ -12,7 +12,7 @@ use Rattle.vx_feed.specs.Feed.{Reading}
 use Rattle.vx_feed.specs.Order.{AreLawful}
 use Rattle.vx_settle.specs.declared.fault.PositionFault.{PositionFault}
 use Rattle.vx_blocks.specs.declared.split_lines.SplitLines.{SplitLines}
-use Rattle.vx_blocks.specs.SplitLines.{lines_coming}
+use Rattle.vx_blocks.specs.SplitLines.{has_line, lines_coming}
 use Rattle.vx_blocks.specs.Given.{HasGiven, IsCutAfter, WereRead}
 use Rattle.vx_reading.specs.FeedReading.{Says, all_good}
 use Rattle.vx_reading.specs.WhatWasRead.{EventsRead}
@@ -25,7 +25,7 @@ use Rattle.vx_drivers.specs.Along.{Along}
 use Rattle.vx_drivers.specs.Exits.{is_cut, is_write_fault}
 use Rattle.vx_drivers.specs.Held.{Held}
 use Rattle.vx_drivers.specs.PositionExits.{IsLineFault}
-use Rattle.vx_drivers.specs.PositionRun.{PositionRules, RunsPositionsBy, Settles, positions_of, settled_text}
+use Rattle.vx_drivers.specs.PositionRun.{PositionRules, RunsPositionsBy, ComesToOneMore, positions_of, settled_text}
 use Rattle.vx_drivers.specs.Sending.{Begins, CutsOff, Sent, Text}
 
 -- what the positions are, where their desk tells them
@@ -105,7 +105,7 @@ pub record SettlesLinesRead {A I : Type 0} (rules : PositionRules A I) (held : H
   pub is_opening : rules.IsOpening events answer
   pub items : List I
   pub lines : List (List ℕ)
-  pub steps : Along (Settles rules answer) [] lines items
+  pub steps : Along (ComesToOneMore rules answer) [] lines items
   pub lines_read : WereRead lines held.side (after Side)
   pub last : Text
   pub last_is : (last ≡ []) ⊎ (IfSome positions (λ told. told ≡ lines_then lines (ended at_end))
@@ -143,22 +143,20 @@ pub record HasEndedPositions {A I : Type 0} (rules : PositionRules A I) (held : 
   pub certs_sent : Sent certs (before Certs) (after Certs)
   pub cut : is_cut exit ≡ true → SettlesNothingOrRead rules held feed positions after exit out certs
 
+-- what was not sent yet is sent before a run ends with this exit, or a write of it failed
+abbrev pub EndsAllSent : Text → Told → Told → Exit → Exit → Type 0
+EndsAllSent unsent before after exit result =
+    ((result ≡ exit) × Sent unsent before after) ⊎ CutsOff Out unsent before after result
+
 module _ {A I S : Type 0} (rules : PositionRules A I) (StandsAt : S → A → List I → Type 0) where
   -- ---- one line
 
-  -- a line is settled, and the output was sent what there is to say of it
-  pub record SendsItem (answer : A) (items : List I) (text : List ℕ) (run : PositionRun S)
-      (before after : Told) : Type 0 where
+  -- a line is settled, and what there is to say of it stands behind what is to be sent
+  pub record KeepsItem (answer : A) (items : List I) (text : List ℕ) (old new : PositionRun S) : Type 0 where
     pub item : I
     pub comes : rules.ComesTo answer text (Ok item)
-    pub stands : StandsAt run.sheet answer (items ++ item ∷ [])
-    pub sent : Sent (rules.item_line (length items + 1) item) before after
-
-  -- a write of it failed
-  pub record CutsItem (answer : A) (items : List I) (text : List ℕ) (before after : Told) (exit : Exit) : Type 0 where
-    pub item : I
-    pub comes : rules.ComesTo answer text (Ok item)
-    pub cut : CutsOff Out (rules.item_line (length items + 1) item) before after exit
+    pub stands : StandsAt new.sheet answer (items ++ item ∷ [])
+    pub unsent : new.unsent.items ≡ old.unsent.items ++ rules.item_line (length items + 1) item
 
   -- the line is no position
   pub record EndsAtFault (answer : A) (items : List I) (text : List ℕ) (exit : Exit) : Type 0 where
@@ -166,18 +164,16 @@ module _ {A I S : Type 0} (rules : PositionRules A I) (StandsAt : S → A → Li
     pub exit_is : exit ≡ BadPositions (length items + 1) (Fault fault)
     pub comes : rules.ComesTo answer text (Err fault)
 
-  -- a line is settled, or the run ends at it: for want of memory, or as it is no position, or where a write failed
-  abbrev pub SettlesLine : A → List I → List ℕ → PositionRun S → Told → Told → Result Unit Exit → Type 0
-  SettlesLine answer items text run before after (Ok _) = SendsItem answer items text run before after
-  SettlesLine answer items text run before after (Err exit) =
-      (((exit ≡ WantsMemory) ⊎ EndsAtFault answer items text exit) × (after ≡ before))
-      ⊎ CutsItem answer items text before after exit
+  -- a line is settled, or the run ends at it: for want of memory, or as it is no position
+  abbrev pub SettlesLine : A → List I → List ℕ → PositionRun S → PositionRun S → Result Unit Exit → Type 0
+  SettlesLine answer items text old new (Ok _) = KeepsItem answer items text old new
+  SettlesLine answer items text old new (Err exit) = (exit ≡ WantsMemory) ⊎ EndsAtFault answer items text exit
 
   -- the line after so many is settled
-  abbrev pub SettlesOne : PositionRun S → List ℕ → PositionRun S → Told → Told → Result Unit Exit → Type 0
-  SettlesOne old text new before after result =
+  abbrev pub SettlesOne : PositionRun S → List ℕ → PositionRun S → Result Unit Exit → Type 0
+  SettlesOne old text new result =
       (answer : A) (items : List I) → StandsAt old.sheet answer items → old.count ≡ length items
-      → SettlesLine answer items text new before after result
+      → SettlesLine answer items text old new result
 
   -- ---- the opening
 
@@ -191,6 +187,7 @@ module _ {A I S : Type 0} (rules : PositionRules A I) (StandsAt : S → A → Li
     pub is_opening : rules.IsOpening events answer
     pub sheet : StandsAt run.sheet answer []
     pub count : run.count ≡ 0
+    pub unsent : run.unsent.items ≡ []
     pub certs : Sent (rules.certificate answer) (before Certs) (now Certs)
     pub out : Sent (rules.line answer) (before Out) (now Out)
 
@@ -203,7 +200,7 @@ module _ {A I S : Type 0} (rules : PositionRules A I) (StandsAt : S → A → Li
   -- ---- from the start of the run
 
   module _ (held : Held) (feed : Option Reading) (positions : Option TextLines) (before : Slot → Told) where
-    -- the opening and the first lines are answered and sent, and these lines are to come
+    -- the opening and the first lines are answered, the answers are sent but for what is unsent, and these lines are to come
     pub record IsSettling (run : PositionRun S) (ahead : SplitLines) (now : Slot → Told) (rest : Option TextLines) : Type 0 where
       pub events : List Event
       pub feed_is : Says feed (all_good events)
@@ -215,17 +212,25 @@ module _ {A I S : Type 0} (rules : PositionRules A I) (StandsAt : S → A → Li
       pub are_first : positions ≡ option_map (lines_then lines) rest
       pub slot : ahead.lines.slot ≡ Side
       pub lines_read : HasGiven lines held.side ahead now
-      pub steps : Along (Settles rules answer) [] lines items
+      pub steps : Along (ComesToOneMore rules answer) [] lines items
       pub sheet : StandsAt run.sheet answer items
       pub count : run.count ≡ length items
       pub certs : Sent (rules.certificate answer) (before Certs) (now Certs)
-      pub out : Sent (settled_text rules answer items) (before Out) (now Out)
+      pub sent : Text
+      pub text_is : settled_text rules answer items ≡ sent ++ run.unsent.items
+      pub out : Sent sent (before Out) (now Out)
 
-    -- and no line is left
+    -- the next line is at hand, or all is sent; or the run ended
+    abbrev pub IsReady : PositionRun S → SplitLines → (Slot → Told) → Option TextLines → Result Unit Exit → Type 0
+    IsReady run ahead now rest (Ok _) =
+        IsSettling run ahead now rest × (has_line ahead ≡ false → run.unsent.items ≡ [])
+    IsReady run ahead now rest (Err exit) = HasEndedPositions rules held feed positions before now exit
+
+    -- no line is left, and all is sent
     abbrev pub IsThroughPositions : PositionRun S → (Slot → Told) → Type 0
     IsThroughPositions run now =
         (ahead : SplitLines) × (rest : Option TextLines) × IsSettling run ahead now rest
-        × IfSome rest (λ lines. lines ≡ ended at_end)
+        × IfSome rest (λ lines. lines ≡ ended at_end) × (run.unsent.items ≡ [])
 
     -- one line more is settled, or none is left, or the run ended
     abbrev pub GoesOnPositions : PositionRun S → SplitLines → (Slot → Told) → Option TextLines → Result Bool Exit → Type 0
@@ -249,6 +254,14 @@ module _ {A I S : Type 0} (rules : PositionRules A I) (StandsAt : S → A → Li
   MaySettle run ahead told =
       (held : Held) × (feed : Option Reading) × (positions : Option TextLines) × (before : Slot → Told)
       × IsSettling held feed positions before run ahead told (rest_of run ahead told)
+
+  -- the lines are read on where none is at hand
+  abbrev pub ReadsMorePositions : PositionRun S → SplitLines → (Slot → Told) → PositionRun S → SplitLines
+      → (Slot → Told) → Result Unit Exit → Type 0
+  ReadsMorePositions old lines told new more now result =
+      (held : Held) (feed : Option Reading) (positions : Option TextLines) (before : Slot → Told)
+      → IsSettling held feed positions before old lines told (rest_of old lines told)
+      → IsReady held feed positions before new more now (rest_of new more now) result
 
   -- the next line is settled
   abbrev pub GoesOnePosition : PositionRun S → SplitLines → (Slot → Told) → PositionRun S → SplitLines

@@ -1,5 +1,6 @@
 //! The way by positions: the feed is read to its end and its opening answered; then each line of positions is
 //! settled before the device is asked for bytes behind it, and the last lines are sent behind the positions' end.
+//! What the output says of lines that were split together is sent together.
 
 ghost use Rattle.std.specs.Prelude.{◌≡◌, ◌+◌, ◌≤◌, [], IfErr, IsTrue};
 ghost use Rattle.vx_desk.specs.Calls.{IsStep};
@@ -31,6 +32,9 @@ pub(crate) struct PositionRun<S: Drop> {
     count: u64,
     /// The text at hand.
     line: Vec<u8>,
+    /// What the output says of the lines that were settled last, and was not sent yet. These lines were split
+    /// together, and such have some 65,536 bytes at most, so it stays small.
+    unsent: Vec<u8>,
 }
 
 /// The position line after so many is bad.
@@ -45,29 +49,29 @@ fn bad_line(count: u64, cause: PositionCause) -> Exit
 }
 
 impl<S: SettlesPositions> PositionRun<S> {
-    ghost use Rattle.std.specs.Prelude.{◌≡◌, ◌<◌, ◌+◌, ◌≤◌, ℕ, List, [], IsTrue, IfErr, IfOk, OnOk};
-    ghost use Rattle.vx_blocks.specs.SplitLines.{IsSplit};
+    ghost use Rattle.std.specs.Prelude.{◌≡◌, ◌<◌, ◌+◌, ◌≤◌, ℕ, List, [], None, IsTrue, IfErr, IfOk, OnErr, OnOk};
+    ghost use Rattle.vx_blocks.specs.SplitLines.{HasNext, IsSplit};
     ghost use Rattle.vx_drivers.specs.PositionLines.{IsPositionLines};
     ghost use Rattle.vx_desk.specs.Told.{ChangesOnly};
     ghost use Rattle.vx_desk.specs.Calls.{IsStep};
     ghost use Rattle.vx_drivers.specs.Exits.{calls_in, exit_calls};
     ghost use Rattle.vx_drivers.specs.PositionExits.{IsPositionExit};
-    ghost use Rattle.vx_drivers.specs.PositionSteps.{EndsPositionRun, GoesOnePosition, GoesToLastPosition, HasItems};
-    ghost use Rattle.vx_drivers.specs.PositionSteps.{MayEndPositions, MaySettle, SettlesOne};
+    ghost use Rattle.vx_drivers.specs.PositionSteps.{EndsAllSent, EndsPositionRun, GoesOnePosition, GoesToLastPosition};
+    ghost use Rattle.vx_drivers.specs.PositionSteps.{HasItems, MayEndPositions, MaySettle, ReadsMorePositions};
+    ghost use Rattle.vx_drivers.specs.PositionSteps.{SettlesOne};
+    ghost use Rattle.vx_drivers.specs.Sending.{SendsOr};
 
-    /// Settles one more line, which was split into its fields.
-    fn settle_line<D: Desk>(&mut self, desk: &mut D, fields: &Fields<'_>) -> Result<(), Exit>
+    /// Settles one more line, which was split into its fields, and keeps what the output says of it to be sent.
+    fn settle_line(&mut self, fields: &Fields<'_>) -> Result<(), Exit>
         requires items { HasItems S.StandsAt self.old.sheet self.old.count }
         requires few { self.old.count < POSITION_LINES_MAX }
         requires split { (text : List ℕ) × IsSplit text fields.now }
-        requires out { IsTrue (D.told desk.old Slot.Out).is_open }
         ensures settles { (text : List ℕ) → IsSplit text fields.now
-            → SettlesOne S.rules S.StandsAt self.old text self.new
-            (D.told desk.old Slot.Out) (D.told desk.new Slot.Out) result }
+            → SettlesOne S.rules S.StandsAt self.old text self.new result }
         ensures lines { OnOk result (self.new.count ≡ self.old.count + 1) }
+        ensures unsent { OnErr result (self.new.unsent.items ≡ self.old.unsent.items) }
+        ensures calls { IfErr result (λ exit. exit_calls exit ≡ None) }
         ensures exits { IfErr result IsPositionExit }
-        ensures step { IsStep (calls_in result) (D.told desk.old) (D.told desk.new) }
-        ensures others { ChangesOnly Slot.Out (D.told desk.old) (D.told desk.new) }
     {
         self.line.clear();
         match self.sheet.settle(self.count, fields, &mut self.line) {
@@ -75,8 +79,72 @@ impl<S: SettlesPositions> PositionRun<S> {
             Ok(Some(fault)) => return Err(bad_line(self.count, PositionCause::Fault(fault))),
             Err(NoMemory) => return Err(Exit::NoMemory),
         }
+        match self.unsent.extend_from_slice(self.line.as_slice()) {
+            Ok(()) => {}
+            Err(_) => return Err(Exit::NoMemory),
+        }
         self.count += 1;
-        send_line(desk, Slot::Out, self.line.as_slice())
+        Ok(())
+    }
+
+    /// Sends what was not sent yet.
+    fn send_unsent<D: Desk>(&mut self, desk: &mut D) -> Result<(), Exit>
+        requires out { IsTrue (D.told desk.old Slot.Out).is_open }
+        ensures sends { SendsOr Slot.Out self.old.unsent.items
+            (D.told desk.old Slot.Out) (D.told desk.new Slot.Out) result }
+        ensures none { OnOk result (self.new.unsent.items ≡ []) }
+        ensures kept { (self.new.sheet ≡ self.old.sheet) × (self.new.count ≡ self.old.count) }
+        ensures exits { IfErr result IsPositionExit }
+        ensures step { IsStep (calls_in result) (D.told desk.old) (D.told desk.new) }
+        ensures others { ChangesOnly Slot.Out (D.told desk.old) (D.told desk.new) }
+    {
+        match send_line(desk, Slot::Out, self.unsent.as_slice()) {
+            Ok(()) => {
+                self.unsent.clear();
+                Ok(())
+            }
+            Err(exit) => Err(exit),
+        }
+    }
+
+    /// Reads the positions on where all lines that were split are taken, once what was not sent yet is sent.
+    fn read_more<D: Desk>(&mut self, desk: &mut D, positions: &mut SplitLines) -> Result<(), Exit>
+        requires lines { IsPositionLines positions.old }
+        requires side { IsTrue (D.told desk.old Slot.Side).is_open }
+        requires out { IsTrue (D.told desk.old Slot.Out).is_open }
+        ensures reads { ReadsMorePositions S.rules S.StandsAt self.old positions.old (D.told desk.old)
+            self.new positions.new (D.told desk.new) result }
+        ensures lines { OnOk result (IsPositionLines positions.new) }
+        ensures next { OnOk result (HasNext positions.new) }
+        ensures count { self.new.count ≡ self.old.count }
+        ensures exits { IfErr result IsPositionExit }
+        ensures step { IsStep (calls_in result) (D.told desk.old) (D.told desk.new) }
+    {
+        if positions.has_line() {
+            return Ok(());
+        }
+        match self.send_unsent(desk) {
+            Ok(()) => {}
+            Err(exit) => return Err(exit),
+        }
+        read_on(positions, desk)
+    }
+
+    /// Sends what was not sent yet, and then ends with this exit.
+    fn end_at<D: Desk>(&mut self, desk: &mut D, exit: Exit) -> Exit
+        requires calls { exit_calls exit ≡ None }
+        requires exits { IsPositionExit exit }
+        requires out { IsTrue (D.told desk.old Slot.Out).is_open }
+        ensures ends { EndsAllSent self.old.unsent.items
+            (D.told desk.old Slot.Out) (D.told desk.new Slot.Out) exit result }
+        ensures exits { IsPositionExit result }
+        ensures step { IsStep (exit_calls result) (D.told desk.old) (D.told desk.new) }
+        ensures others { ChangesOnly Slot.Out (D.told desk.old) (D.told desk.new) }
+    {
+        if let Err(failed) = self.send_unsent(desk) {
+            return failed;
+        }
+        exit
     }
 
     /// Settles the next line, or answers that there is none.
@@ -98,7 +166,7 @@ impl<S: SettlesPositions> PositionRun<S> {
         ensures exits { IfErr result IsPositionExit }
         ensures step { IsStep (calls_in result) (D.told desk.old) (D.told desk.new) }
     {
-        match read_on(positions, desk) {
+        match self.read_more(desk, positions) {
             Ok(()) => {}
             Err(exit) => return Err(exit),
         }
@@ -109,14 +177,14 @@ impl<S: SettlesPositions> PositionRun<S> {
             };
         }
         if self.count == POSITION_LINES_MAX {
-            return Err(bad_line(self.count, PositionCause::TooMany));
+            return Err(self.end_at(desk, bad_line(self.count, PositionCause::TooMany)));
         }
-        match self.settle_line(desk, &positions.fields()) {
+        match self.settle_line(&positions.fields()) {
             Ok(()) => {
                 positions.take();
                 Ok(true)
             }
-            Err(exit) => Err(exit),
+            Err(exit) => Err(self.end_at(desk, exit)),
         }
     }
 
@@ -196,6 +264,7 @@ fn open_run<B: AnswersOpening, D: Desk>(
             sheet,
             count: 0,
             line,
+            unsent: Vec::new(alloc),
         }),
         Err(exit) => Err(exit),
     }
@@ -206,6 +275,7 @@ fn open_run<B: AnswersOpening, D: Desk>(
 ///
 /// Nothing is sent before the feed is read to its end. The opening's certificate is sent whole before
 /// anything of its line, and each line of positions is answered before the device is asked for bytes behind it.
+/// Lines that came together are answered together.
 pub fn settle_positions<B: AnswersOpening, D: Desk>(alloc: Global, book: B, desk: &mut D) -> Exit
     requires book { B.StandsFor book [] }
     requires feed { IsTrue (D.told desk.old Slot.Feed).is_open }

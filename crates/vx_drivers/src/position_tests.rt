@@ -230,5 +230,20 @@ fn is_cut_off_by_a_failed_call(rt: HostRuntime) -> Result<(), Fail> {
     expect_cut(&rt, rt.alloc(), &[6], certs, "", "")?;
     expect_cut(&rt, rt.alloc(), &[7], out, "", "c3\n")?;
     expect_cut(&rt, rt.alloc(), &[8], side, "3\n", "c3\n")?;
-    expect_cut(&rt, rt.alloc(), &[10], out, "3\n1,3\n", "c3\n")
+    expect_cut(&rt, rt.alloc(), &[9], out, "3\n", "c3\n")?;
+    expect_cut(&rt, rt.alloc(), &[10], side, "3\n1,3\n2,1\n", "c3\n")?;
+    expect_cut(&rt, rt.alloc(), &[11], out, "3\n1,3\n2,1\n", "c3\n")
+}
+
+#[test]
+fn sends_a_first_part_of_lines_that_were_split_together(rt: HostRuntime) -> Result<(), Fail> {
+    let case = Case {
+        feed: FEED,
+        positions: POSITIONS,
+        fails: &[16],
+        exit: Exit::WriteFault { slot: Slot::Out },
+        out: "3\n1,3\n2",
+        certs: "c3\n",
+    };
+    expect_run(&rt, rt.alloc(), 5, &case)
 }

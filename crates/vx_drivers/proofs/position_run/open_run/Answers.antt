@@ -69,7 +69,7 @@ returns-in-Ok-send_both-clause-opens g c =
     c.in-Ok-answer_opening.sheet _ told read sent reads.2 were_read opens
     (c.in-Ok-read_to_end.ensures.others Out out_not_feed) (c.in-Ok-read_to_end.ensures.others Certs certs_not_feed)
     (subst (λ (t : Text). Sent t (read Certs) (sent Certs)) c.as_slice.ensures.value both.0)
-    (subst (λ (t : Text). Sent t (read Out) (sent Out)) c.as_slice-2.ensures.value both.1) refl refl
+    (subst (λ (t : Text). Sent t (read Out) (sent Out)) c.as_slice-2.ensures.value both.1) refl refl c.new-in-Ok-send_both.ensures.items
 
 pub returns-clause-opens : goal.returns-clause-opens
 returns-clause-opens g c = λ positions side.
