@@ -1,5 +1,5 @@
--- A value of JSON that is no certificate has a field at fault: it is never told to be no JSON.
-use Rattle.std.proofs.Common.{◌≡◌, ◌≢◌, ℕ, ◌+◌, ◌*◌, Bool, true, false, List, Option, Some, None, Result, Ok, Err, ap, sym}
+-- A value of JSON is read as a certificate, or has a field at fault: nothing else is told of it.
+use Rattle.std.proofs.Common.{◌≡◌, ◌≢◌, ℕ, ◌+◌, ◌*◌, Bool, true, false, List, Option, Some, None, Result, Ok, Err, subst, sym}
 use Rattle.std.specs.Prelude.{codes, if◌then◌else◌}
 use Rattle.serde_json.specs.Data.{Data}
 use Rattle.vx_cert.specs.declared.certificate.Certificate.{Certificate}
@@ -13,33 +13,33 @@ use Rattle.vx_cert.specs.declared.limits.TheConstants.{VERSION_MIN, VERSION_MAX,
 use Rattle.vx_cert.specs.Form.{at, has_only, whole_of, signed_of, word_of, taylor_of, ends_of, index_ends_of, rows_of, object_of, root_of, date_of, time_of, pair_of, kind_of}
 use Rattle.vx_cert.specs.Reading.{with, field, with_only, level_names, term_names, one_term_names, index_names, level_body, term_fields, term_at, figure_from, one_term, index_body, body_of, certificate_of, IsValueOf, ReadsAs}
 
--- it is not told to be no JSON
-record IsOfJson {A : Type 0} (r : Result A CertFault) : Type 0 where
-  not_syntax : r ≢ Err Syntax
+-- it is something, or a field is at fault
+abbrev pub IsOrNamesField : {A : Type 0} → Result A CertFault → Type 0
+IsOrNamesField (Ok x) = Unit {0}
+IsOrNamesField (Err (Field n)) = Unit {0}
+IsOrNamesField (Err _) = ⊥
 
-said : {A : Type 0} (x : A) → IsOfJson (Ok x)
-said x = record { not_syntax = λ e. cc }
+missing : {A : Type 0} (n : ℕ) (o : Option A) → IsOrNamesField (ok_or o (Field n))
+missing n None = tt
+missing n (Some x) = tt
 
-missing : {A : Type 0} (n : ℕ) (o : Option A) → IsOfJson (ok_or o (Field n))
-missing n None = record { not_syntax = λ e. cc }
-missing n (Some x) = record { not_syntax = λ e. cc }
-
-onward : {A B : Type 0} (r : Result A CertFault) (next : A → Result B CertFault) → IsOfJson r → ((x : A) → IsOfJson (next x)) → IsOfJson (with r next)
+onward : {A B : Type 0} (r : Result A CertFault) (next : A → Result B CertFault) → IsOrNamesField r → ((x : A) → IsOrNamesField (next x)) → IsOrNamesField (with r next)
 onward (Ok x) next first rest = rest x
-onward {A} {B} (Err fault) next first rest =
-    record { not_syntax = λ e. let same : fault ≡ Syntax = cc in first.not_syntax (ap Err same) }
+onward (Err (Field n)) next first rest = tt
+onward (Err Syntax) next first rest = first
+onward (Err NoMemory) next first rest = first
 
-step : {A B : Type 0} (n : ℕ) (key : List ℕ) (reading : Data → Option A) (d : Data) (next : A → Result B CertFault) → ((x : A) → IsOfJson (next x)) → IsOfJson (with (field n key reading d) next)
+step : {A B : Type 0} (n : ℕ) (key : List ℕ) (reading : Data → Option A) (d : Data) (next : A → Result B CertFault) → ((x : A) → IsOrNamesField (next x)) → IsOrNamesField (with (field n key reading d) next)
 step n key reading d next rest = onward (field n key reading d) next (missing n (at key reading d)) rest
 
-decided : {A : Type 0} (allowed : Bool) (n : ℕ) (x : A) → IsOfJson (if allowed then Ok x else Err (Field n))
-decided true n x = said x
-decided false n x = record { not_syntax = λ e. cc }
+decided : {A : Type 0} (allowed : Bool) (n : ℕ) (x : A) → IsOrNamesField (if allowed then Ok x else Err (Field n))
+decided true n x = tt
+decided false n x = tt
 
-only : {A : Type 0} (names : List (List ℕ)) (n : ℕ) (d : Data) (x : A) → IsOfJson (with_only names n d x)
+only : {A : Type 0} (names : List (List ℕ)) (n : ℕ) (d : Data) (x : A) → IsOrNamesField (with_only names n d x)
 only names n d x = decided (has_only names d) n x
 
-level : (d : Data) → IsOfJson (level_body d)
+level : (d : Data) → IsOrNamesField (level_body d)
 level d =
     step (5) (codes "root") root_of d _ (λ r.
     step (6) (codes "date") date_of d _ (λ day.
@@ -47,7 +47,7 @@ level d =
     step (8) (codes "k0") word_of d _ (λ k0.
     only level_names 0 d _))))
 
-term_inside : (n : ℕ) (d : Data) → IsOfJson (term_fields n d)
+term_inside : (n : ℕ) (d : Data) → IsOrNamesField (term_fields n d)
 term_inside n d =
     step (100 * n + 1) (codes "root") root_of d _ (λ r.
     step (100 * n + 2) (codes "date") date_of d _ (λ day.
@@ -64,45 +64,46 @@ term_inside n d =
     step (100 * n + 13) (codes "w") ends_of d _ (λ w.
     only term_names (100 * n) d _)))))))))))))
 
-term : (n : ℕ) (key : List ℕ) (d : Data) → IsOfJson (term_at n key d)
+term : (n : ℕ) (key : List ℕ) (d : Data) → IsOrNamesField (term_at n key d)
 term n key d = step n key object_of d (term_fields n) (term_inside n)
 
-figure : (n : ℕ) (d : Data) → IsOfJson (figure_from n d)
+figure : (n : ℕ) (d : Data) → IsOrNamesField (figure_from n d)
 figure n d =
     step (n) (codes "x") ends_of d _ (λ x.
     step (n + 1) (codes "ends") index_ends_of d _ (λ ends.
     step (n + 2) (codes "cents") (whole_of 0 CENTS_MAX) d _ (λ cents.
-    said _)))
+    tt)))
 
-single : (d : Data) → IsOfJson (one_term d)
+single : (d : Data) → IsOrNamesField (one_term d)
 single d =
     onward (term_at 5 (codes "term") d) _ (term 5 (codes "term") d) (λ t.
     onward (figure_from 6 d) _ (figure 6 d) (λ f. only one_term_names 0 d _))
 
-index : (d : Data) → IsOfJson (index_body d)
+index : (d : Data) → IsOrNamesField (index_body d)
 index d =
     step 5 (codes "days") (whole_of 0 DAYS_MAX) d _ (λ days.
     onward (term_at 6 (codes "near") d) _ (term 6 (codes "near") d) (λ near.
     onward (term_at 7 (codes "next") d) _ (term 7 (codes "next") d) (λ next.
     onward (figure_from 8 d) _ (figure 8 d) (λ f. only index_names 0 d _))))
 
-body : (k : Kind) (d : Data) → IsOfJson (body_of k d)
+body : (k : Kind) (d : Data) → IsOrNamesField (body_of k d)
 body kind.Level d = level d
-body kind.Single d = onward (one_term d) _ (single d) (λ x. said _)
+body kind.Single d = onward (one_term d) _ (single d) (λ x. tt)
 body kind.Index d = index d
-body kind.Soq d = onward (one_term d) _ (single d) (λ x. said _)
+body kind.Soq d = onward (one_term d) _ (single d) (λ x. tt)
 
-whole : (d : Data) → IsOfJson (certificate_of d)
-whole d =
+-- a value is read as a certificate, or a field of it is at fault
+pub is_or_names_field : (d : Data) → IsOrNamesField (certificate_of d)
+is_or_names_field d =
     step (1) (codes "v") (whole_of VERSION_MIN VERSION_MAX) d _ (λ v.
     step (2) (codes "kind") kind_of d _ (λ k.
     step (3) (codes "line") (whole_of 1 LINE_MAX) d _ (λ line.
     step (4) (codes "time") time_of d _ (λ time.
-    onward (body_of k d) _ (body k d) (λ b. said _)))))
+    onward (body_of k d) _ (body k d) (λ b. tt)))))
 
 -- what is read of a line's value is what the line is read as
 pub reads_as : (line : List ℕ) (d : Data) (r : Result Certificate CertFault) → IsValueOf line d → (r ≢ Err NoMemory → r ≡ certificate_of d) → ReadsAs line r
 reads_as line d (Ok c) value same = (d, value, sym (same (λ e. cc)))
 reads_as line d (Err NoMemory) value same = tt
-reads_as line d (Err Syntax) value same = absurd ((whole d).not_syntax (sym (same (λ e. cc))))
+reads_as line d (Err Syntax) value same = absurd (subst IsOrNamesField (sym (same (λ e. cc))) (is_or_names_field d))
 reads_as line d (Err (Field n)) value same = (d, value, sym (same (λ e. cc)))

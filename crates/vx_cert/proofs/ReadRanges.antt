@@ -1,12 +1,12 @@
 -- A certificate that is read from a value of JSON has each field in its range, and each number in that
 -- of its type.
 use Rattle.std.proofs.Common.{◌≡◌, ◌≢◌, refl, sym, subst, ap, ◌∙◌, ℕ, ◌+◌, ◌-◌, ◌*◌, ◌^◌, ◌<◌, ◌≤◌, Bool, true, false, cond, not}
-use Rattle.std.proofs.Common.{◌&&◌, List, [], ◌∷◌, take, slice_range, length, ℤ, pos, negsuc, neg_ℤ, ◌≤ℤ◌, ◌<ℤ◌, Option, Some, None, Result, Ok, Err, arith}
+use Rattle.std.proofs.Common.{◌&&◌, List, [], ◌∷◌, length, ℤ, pos, negsuc, neg_ℤ, ◌≤ℤ◌, ◌<ℤ◌, Option, Some, None, Result, Ok, Err, arith}
 use Rattle.std.specs.Prelude.{◌==◌, IfOk, nat_le, nat_lt, int_le, int_lt, codes, option_and_then}
 use Rattle.std.specs.List.{All}
 use Rattle.std.specs.Option.{ok_or}
 use Rattle.std.specs.Result.{result_ok}
-use Rattle.std.proofs.lemmas.Bool.{and_parts, leb-true, ltb-true, not-false}
+use Rattle.std.proofs.lemmas.Bool.{and_parts, leb-true, ltb-true}
 use Rattle.std.proofs.lemmas.Int.{ints}
 use Rattle.std.proofs.lemmas.Bool.Decides.{nat_tests}
 use Rattle.std.proofs.lemmas.List.Elements.{All-nil, All-cons}
@@ -15,14 +15,10 @@ use Rattle.serde_json.specs.Find.{get, as_number, as_u64, as_i64, as_str}
 use Rattle.vx_num.specs.Decimal.{magnitude_of, wide_of as number_of_text, with_sign, digits_worth, is_digits, is_minus}
 use Rattle.vx_num.specs.declared.fault.DecimalFault.{DecimalFault}
 use Rattle.vx_num.specs.declared.fault.DecimalFault.TheVariants.{NotDigit, TooLarge}
-use Rattle.vx_clock.specs.declared.days.DayNo.{DayNo}
-use Rattle.vx_clock.specs.declared.days.DayFault.{DayFault}
-use Rattle.vx_clock.specs.declared.days.DayFault.TheVariants.{Form, Year, NoSuchDay}
 use Rattle.vx_clock.specs.declared.limits.TheConstants.{MINUTES_MIN, MINUTES_MAX, RATE_MIN, RATE_MAX, MINUTE_MAX}
-use Rattle.vx_clock.specs.Clock.{has_time_form, minute_of, time_of_text}
-use Rattle.vx_clock.specs.Day.{IsDayInRange, day_number, is_year_in_range, is_in_calendar, day_of_date, day_of_text, has_day_form}
-use Rattle.vx_clock.specs.Digits.{digits_value}
-use Rattle.vx_clock.proofs.DayNumbers.{days_from_civil_range}
+use Rattle.vx_clock.specs.Clock.{time_of_text}
+use Rattle.vx_clock.specs.Day.{IsDayInRange, day_of_text}
+use Rattle.vx_clock.proofs.TextRanges.{day_of_text_range, past_fault, some_test, time_of_text_range}
 use Rattle.vx_cert.specs.declared.certificate.Certificate.{Certificate}
 use Rattle.vx_cert.specs.declared.certificate.CertBody.{CertBody}
 use Rattle.vx_cert.specs.declared.certificate.CertBody.TheVariants.{K0, Single, Index, Soq}
@@ -117,19 +113,6 @@ decided false n x p = record { holds = λ y e. absurd cc }
 only : {A : Type 0} {P : A → Type 0} (names : List (List ℕ)) (n : ℕ) (d : Data) (x : A) → P x → Has P (with_only names n d x)
 only names n d x p = decided (has_only names d) n x p
 
--- what passed a test
-tested : {A : Type 0} (t : Bool) (o : Option A) (x : A) → cond t o None ≡ Some x → (t ≡ true) × (o ≡ Some x)
-tested true o x h = (refl, h)
-tested false o x h = absurd cc
-
-passed : {A E : Type 0} (t : Bool) (fault : E) (r : Result A E) (x : A) → cond t r (Err fault) ≡ Ok x → (t ≡ true) × (r ≡ Ok x)
-passed true fault r x h = (refl, h)
-passed false fault r x h = absurd cc
-
-no_fault : {A E : Type 0} (t : Bool) (fault : E) (r : Result A E) (x : A) → cond t (Err fault) r ≡ Ok x → (t ≡ false) × (r ≡ Ok x)
-no_fault true fault r x h = absurd cc
-no_fault false fault r x h = (refl, h)
-
 ok_of : {A E : Type 0} (r : Result A E) (x : A) → result_ok r ≡ Some x → r ≡ Ok x
 ok_of (Ok y) x h = let same : y ≡ x = cc in ap Ok same
 ok_of (Err e) x h = absurd cc
@@ -146,7 +129,7 @@ whole : (low high : ℕ) → Gives (λ n. (low ≤ n) × (n ≤ high)) (whole_of
 whole low high = record {
   holds = λ d x h.
       let n = found (λ n. cond (nat_le low n && nat_le n high) (Some n) None) (option_and_then as_u64 (as_number d)) x h in
-      let t = tested (nat_le low n.0 && nat_le n.0 high) (Some n.0) x n.2 in
+      let t = some_test (nat_le low n.0 && nat_le n.0 high) (Some n.0) x n.2 in
       let both_hold = and_parts (nat_le low n.0) (nat_le n.0 high) t.0 in
       let same : n.0 ≡ x = cc in
       subst (λ m. (low ≤ m) × (m ≤ high)) same (leb-true low n.0 both_hold.0, leb-true n.0 high both_hold.1);
@@ -162,7 +145,7 @@ signed : (low high : ℤ) → Gives (λ z. (low ≤ℤ z) × (z ≤ℤ high)) (s
 signed low high = record {
   holds = λ d x h.
       let z = found (λ z. cond (int_le low z && int_le z high) (Some z) None) (option_and_then as_i64 (as_number d)) x h in
-      let t = tested (int_le low z.0 && int_le z.0 high) (Some z.0) x z.2 in
+      let t = some_test (int_le low z.0 && int_le z.0 high) (Some z.0) x z.2 in
       let both_hold = and_parts (int_le low z.0) (int_le z.0 high) t.0 in
       let same : z.0 ≡ x = cc in
       subst (λ m. (low ≤ℤ m) × (m ≤ℤ high)) same (int_at_most low z.0 both_hold.0, int_at_most z.0 high both_hold.1);
@@ -171,8 +154,8 @@ signed low high = record {
 magnitude_below : (text : List ℕ) (bits n : ℕ) → magnitude_of text bits ≡ Ok n → n < 2 ^ bits
 magnitude_below [] bits n h = absurd cc
 magnitude_below (b ∷ bs) bits n h =
-    let form = no_fault (not (is_digits (b ∷ bs))) NotDigit (cond (nat_le (2 ^ bits) (digits_worth (b ∷ bs))) (Err TooLarge) (Ok (digits_worth (b ∷ bs)))) n h in
-    let small = no_fault (nat_le (2 ^ bits) (digits_worth (b ∷ bs))) TooLarge (Ok (digits_worth (b ∷ bs))) n form.1 in
+    let form = past_fault (not (is_digits (b ∷ bs))) NotDigit (cond (nat_le (2 ^ bits) (digits_worth (b ∷ bs))) (Err TooLarge) (Ok (digits_worth (b ∷ bs)))) n h in
+    let small = past_fault (nat_le (2 ^ bits) (digits_worth (b ∷ bs))) TooLarge (Ok (digits_worth (b ∷ bs))) n form.1 in
     let same : digits_worth (b ∷ bs) ≡ n = cc in
     let test = small.0 in
     grind (arith, nat_tests)
@@ -206,7 +189,7 @@ index_end = record {
       let low = neg_ℤ (pos (2 ^ INDEX_END_BITS)) in
       let high = pos (2 ^ INDEX_END_BITS) in
       let z = found (λ z. cond (int_lt low z && int_lt z high) (Some z) None) (wide_of d) x h in
-      let t = tested (int_lt low z.0 && int_lt z.0 high) (Some z.0) x z.2 in
+      let t = some_test (int_lt low z.0 && int_lt z.0 high) (Some z.0) x z.2 in
       let both_hold = and_parts (int_lt low z.0) (int_lt z.0 high) t.0 in
       let same : z.0 ≡ x = cc in
       subst (IsBelowPower INDEX_END_BITS) same (int_below low z.0 both_hold.0, int_below z.0 high both_hold.1);
@@ -214,7 +197,7 @@ index_end = record {
 
 part_inside : (z : ℤ) (x : ℕ) → part_in_range z ≡ Some x → x < 2 ^ 64
 part_inside (pos n) x h =
-    let t = tested (nat_lt n (2 ^ 64)) (Some n) x h in
+    let t = some_test (nat_lt n (2 ^ 64)) (Some n) x h in
     let same : n ≡ x = cc in
     let test = t.0 in
     subst (λ m. m < 2 ^ 64) same (ltb-true n (2 ^ 64) test)
@@ -275,7 +258,7 @@ all_inside {A} {P} reading gives (d ∷ ds) xs h =
 
 terms_inside : (ds : List Data) (xs : List ℕ) → taylor_named ds ≡ Some xs → FitTerms xs
 terms_inside ds xs h =
-    let t = tested (length ds == TAYLOR_TERMS) (all_read part_of ds) xs h in
+    let t = some_test (length ds == TAYLOR_TERMS) (all_read part_of ds) xs h in
     let all = all_inside part_of part ds xs t.1 in
     let test = t.0 in
     let many : length ds ≡ TAYLOR_TERMS = grind (arith, nat_tests) in
@@ -322,7 +305,7 @@ AreRows rows = (1 ≤ length rows) × (length rows ≤ ROWS_MAX) × All FitsRow 
 
 rows_inside : (ds : List Data) (x : List CertRow) → rows_named ds ≡ Some x → AreRows x
 rows_inside ds x h =
-    let t = tested (nat_le 1 (length ds) && nat_le (length ds) ROWS_MAX) (all_read row_of ds) x h in
+    let t = some_test (nat_le 1 (length ds) && nat_le (length ds) ROWS_MAX) (all_read row_of ds) x h in
     let both_hold = and_parts (nat_le 1 (length ds)) (nat_le (length ds) ROWS_MAX) t.0 in
     let some = leb-true 1 (length ds) both_hold.0 in
     let most = leb-true (length ds) ROWS_MAX both_hold.1 in
@@ -335,48 +318,18 @@ rows = record { holds = λ d x h. let list = found rows_named (list_of d) x h in
 
 -- ---- days and times
 
-day_inside : (y m d : ℕ) (x : DayNo) → day_of_date y m d ≡ Ok x → IsDayInRange x
-day_inside y m d x h =
-    let day : Result DayNo DayFault = Ok (record { 0 = day_number y m d }) in
-    let year = no_fault (not (is_year_in_range y)) Year (cond (is_in_calendar y m d) day (Err NoSuchDay)) x h in
-    let there = passed (is_in_calendar y m d) NoSuchDay day x year.1 in
-    let y_in = and_parts (nat_le 2000 y) (nat_le y 2099) (not-false (is_year_in_range y) year.0) in
-    let md_in = and_parts (nat_le 1 m && nat_le m 12) _ there.0 in
-    let m_in = and_parts (nat_le 1 m) (nat_le m 12) md_in.0 in
-    let d_in = and_parts (nat_le 1 d) _ md_in.1 in
-    let low : 2000 ≤ y = leb-true 2000 y y_in.0 in
-    let high : y ≤ 2099 = leb-true y 2099 y_in.1 in
-    let is : record { 0 = day_number y m d } ≡ x = cc in
-    subst IsDayInRange is (days_from_civil_range y m d low high
-    ((omega (arith, ints), omega (arith, ints)), (leb-true 1 m m_in.0, leb-true m 12 m_in.1), (leb-true 1 d d_in.0, leb-true d _ d_in.1)))
-
 date : Gives IsDayInRange date_of
 date = record {
   holds = λ v x h.
       let text = found (λ text. result_ok (day_of_text text)) (as_str v) x h in
-      let named = ok_of (day_of_text text.0) x text.2 in
-      let y = digits_value (take 4 text.0) in
-      let m = digits_value (slice_range text.0 5 7) in
-      let d = digits_value (slice_range text.0 8 10) in
-      day_inside y m d x (passed (has_day_form text.0) Form (day_of_date y m d) x named).1;
+      day_of_text_range text.0 x (ok_of (day_of_text text.0) x text.2);
 }
-
-minute_inside : (hour minute x : ℕ) → minute_of hour minute ≡ Some x → x ≤ MINUTE_MAX
-minute_inside hour minute x h =
-    let t = tested (nat_le hour 23 && nat_le minute 59) (Some (60 * hour + minute)) x h in
-    let both_hold = and_parts (nat_le hour 23) (nat_le minute 59) t.0 in
-    let a = leb-true hour 23 both_hold.0 in
-    let b = leb-true minute 59 both_hold.1 in
-    let is : 60 * hour + minute ≡ x = cc in
-    omega arith
 
 time : Gives (λ minute. minute ≤ MINUTE_MAX) time_of
 time = record {
   holds = λ v x h.
       let text = found time_of_text (as_str v) x h in
-      let hour = digits_value (take 2 text.0) in
-      let minute = digits_value (slice_range text.0 3 5) in
-      minute_inside hour minute x (tested (has_time_form text.0) (minute_of hour minute) x text.2).1;
+      time_of_text_range text.0 x text.2;
 }
 
 -- ---- the parts of a certificate

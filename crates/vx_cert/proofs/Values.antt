@@ -33,9 +33,9 @@ mapped_len f [] = refl
 mapped_len f (x ∷ xs) = ap suc (mapped_len f xs)
 
 -- what ends a list well from an element on ends it well from the next one on
-pub sent_more : {A : Type 0} (f : A → Data) (xs ys : List A) (i : ℕ) (d : A) (mid next : Log) (Well : Log → Type 0) → xs ≡ ys → i < length xs → SendsValue (f (get_or xs i d)) mid next
+pub sent_item : {A : Type 0} (f : A → Data) (xs ys : List A) (i : ℕ) (d : A) (mid next : Log) (Well : Log → Type 0) → xs ≡ ys → i < length xs → SendsValue (f (get_or xs i d)) mid next
     → ((end : Log) → SendsItems (items_of (map f (drop i ys))) mid end → Well end) → (end : Log) → SendsItems (items_of (map f (drop (i + 1) ys))) next end → Well end
-sent_more {A} f xs ys i d mid next Well same h sent =
+sent_item {A} f xs ys i d mid next Well same h sent =
     subst (λ (zs : List A). ((end : Log) → SendsItems (items_of (map f (drop i zs))) mid end → Well end) → (end : Log) → SendsItems (items_of (map f (drop (i + 1) zs))) next end → Well end) same
     (λ before end rest. before end (subst (λ (zs : List A). SendsItems (items_of (map f zs)) mid end) (sym (drop_more xs i d h)) (next, sent, rest)))
 

@@ -9,14 +9,12 @@ use Rattle.std.proofs.lemmas.List.{length-map, take_all, take_more, map-append}
 use Rattle.serde_json.specs.Data.{Data, string}
 use Rattle.serde_json.specs.Find.{get}
 use Rattle.vx_num.proofs.ReadBack.{read_back_wide}
-use Rattle.vx_clock.specs.Clock.{clock_text, time_of_text}
+use Rattle.vx_clock.specs.Clock.{clock_text}
 use Rattle.vx_clock.specs.DayText.{day_text}
 use Rattle.vx_clock.specs.RootText.{bare_root_text}
 use Rattle.vx_clock.specs.declared.terms.Expiry.{Expiry}
-use Rattle.vx_clock.specs.declared.terms.Root.{Root}
-use Rattle.vx_clock.specs.declared.terms.Root.TheVariants.{Spx, Spxw}
-use Rattle.vx_clock.specs.declared.limits.TheConstants.{MINUTES_MIN, MINUTES_MAX, RATE_MIN, RATE_MAX, MINUTE_MAX}
-use Rattle.vx_clock.proofs.DigitText.{is_digit as is_digit_at}
+use Rattle.vx_clock.specs.declared.limits.TheConstants.{MINUTES_MIN, MINUTES_MAX, RATE_MIN, RATE_MAX}
+use Rattle.vx_clock.proofs.ClockTexts.{read_back_clock, read_back_root}
 use Rattle.vx_clock.proofs.DayTexts.{read_back_day}
 use Rattle.vx_cert.specs.declared.certificate.Certificate.{Certificate}
 use Rattle.vx_cert.specs.declared.certificate.CertBody.{CertBody}
@@ -97,29 +95,8 @@ index_ends_back lo hi a b = both_said (λ l h. (l, h)) (index_end_of (wide_numbe
 
 -- ---- texts
 
-root_back : (r : Root) → root_of (string (bare_root_text r)) ≡ Some r
-root_back Spx = refl
-root_back Spxw = refl
-
-date_back : (x : Expiry) → IsExpiryInRange x → date_of (string (day_text x.date)) ≡ Some x.date
-date_back x h = ap result_ok (read_back_day x.date (h.first, h.last))
-
-two_digits_back : (hour minute : ℕ) → hour ≤ 23 → minute ≤ 59 → time_of_text ((48 + hour / 10) ∷ (48 + hour % 10) ∷ 58 ∷ (48 + minute / 10) ∷ (48 + minute % 10) ∷ []) ≡ Some (60 * hour + minute)
-two_digits_back hour minute h m =
-    let h1 = is_digit_at (hour / 10) (omega arith) in
-    let h2 = is_digit_at (hour % 10) (omega arith) in
-    let m1 = is_digit_at (minute / 10) (omega arith) in
-    let m2 = is_digit_at (minute % 10) (omega arith) in
-    let hours : 10 * (10 * 0 + (48 + hour / 10 - 48)) + (48 + hour % 10 - 48) ≡ hour = omega arith in
-    let minutes : 10 * (10 * 0 + (48 + minute / 10 - 48)) + (48 + minute % 10 - 48) ≡ minute = omega arith in
-    let least : nat_le hour 23 ≡ true = grind (arith, nat_tests) in
-    let most : nat_le minute 59 ≡ true = grind (arith, nat_tests) in
-    rw (h1, h2, m1, m2) (rw (hours, minutes, least, most) refl)
-
-time_back : (minute : ℕ) → minute ≤ MINUTE_MAX → time_of (string (clock_text minute)) ≡ Some minute
-time_back minute most =
-    let same : 60 * (minute / 60) + minute % 60 ≡ minute = omega arith in
-    two_digits_back (minute / 60) (minute % 60) (omega arith) (omega arith) ∙ ap Some same
+expiry_date_back : (x : Expiry) → IsExpiryInRange x → date_of (string (day_text x.date)) ≡ Some x.date
+expiry_date_back x h = ap result_ok (read_back_day x.date (h.first, h.last))
 
 -- ---- lists
 
@@ -159,11 +136,11 @@ back_all {B} reading writing xs ys i same h before =
     subst (λ (zs : List B). all_read reading (map writing zs) ≡ Some zs) (take_all i ys most) before
 
 -- numbers of 64 bits
-parts_back : (terms : List ℕ) → ((i : ℕ) → get_or terms i 0 < 2 ^ 64) → all_read part_of (map (λ term. wide_number (pos term)) terms) ≡ Some terms
-parts_back [] fits = refl
-parts_back (term ∷ terms) fits =
+taylor_terms_back : (terms : List ℕ) → ((i : ℕ) → get_or terms i 0 < 2 ^ 64) → all_read part_of (map (λ term. wide_number (pos term)) terms) ≡ Some terms
+taylor_terms_back [] fits = refl
+taylor_terms_back (term ∷ terms) fits =
     both_said (λ said others. said ∷ others) (part_of (wide_number (pos term))) (all_read part_of (map (λ term. wide_number (pos term)) terms)) term terms
-    (part_back term (fits 0)) (parts_back terms (λ i. fits (suc i)))
+    (part_back term (fits 0)) (taylor_terms_back terms (λ i. fits (suc i)))
 
 pub pair_back : (pair : Pair) → pair.strike < 2 ^ 32 → negsuc (2 ^ 31 - 1) ≤ℤ pair.d → pair.d ≤ℤ pos (2 ^ 31 - 1) → pair_of (pair_data pair) ≡ Some pair
 pair_back pair small low high =
@@ -185,7 +162,7 @@ terms_back terms many fits =
     let ds : List Data = map (λ term. wide_number (pos term)) terms in
     let same : length ds ≡ length terms = length-map terms (λ term. wide_number (pos term)) in
     let test : (length ds == TAYLOR_TERMS) ≡ true = grind (arith, nat_tests) in
-    listed taylor_named ds ∙ (ap (λ t. cond t (all_read part_of ds) None) test ∙ parts_back terms fits)
+    listed taylor_named ds ∙ (ap (λ t. cond t (all_read part_of ds) None) test ∙ taylor_terms_back terms fits)
 
 -- and of both
 pub taylor_back : (low high : List ℕ) → option_and_then taylor_named (list_of (taylor_data low)) ≡ Some low → option_and_then taylor_named (list_of (taylor_data high)) ≡ Some high
@@ -212,8 +189,8 @@ pub term_back : (term : CertTerm) → IsTermInRange term → pair_of (pair_data 
     → taylor_of (taylor_pair_data term.t_lo term.t_hi) ≡ Some (term.t_lo, term.t_hi) → all_read row_of (map row_data term.rows) ≡ Some term.rows → (n : ℕ) → term_fields n (term_data term) ≡ Ok term
 term_back term h pair k0 terms rows n =
     let d = term_data term in
-    step (100 * n + 1) (codes "root") root_of d _ (string (bare_root_text term.expiry.root)) term.expiry.root (Ok term) refl (root_back term.expiry.root) (
-    step (100 * n + 2) (codes "date") date_of d _ (string (day_text term.expiry.date)) term.expiry.date (Ok term) refl (date_back term.expiry h.date) (
+    step (100 * n + 1) (codes "root") root_of d _ (string (bare_root_text term.expiry.root)) term.expiry.root (Ok term) refl (read_back_root term.expiry.root) (
+    step (100 * n + 2) (codes "date") date_of d _ (string (day_text term.expiry.date)) term.expiry.date (Ok term) refl (expiry_date_back term.expiry h.date) (
     step (100 * n + 3) (codes "minutes") (whole_of MINUTES_MIN MINUTES_MAX) d _ (whole_number term.minutes) term.minutes (Ok term) refl (whole_back MINUTES_MIN MINUTES_MAX term.minutes h.minutes_first h.minutes_last) (
     step (100 * n + 4) (codes "rate") (signed_of RATE_MIN RATE_MAX) d _ (signed_number term.rate) term.rate (Ok term) refl (signed_back RATE_MIN RATE_MAX term.rate h.rate_least h.rate_greatest (omega (arith, ints))) (
     step (100 * n + 5) (codes "exp") taylor_of d _ (taylor_pair_data term.t_lo term.t_hi) (term.t_lo, term.t_hi) (Ok term) refl terms (
@@ -243,8 +220,8 @@ pub level_back : (c : Certificate) (x : Expiry) (pair : Pair) (k0 : ℕ) → IsE
 level_back c x pair k0 h pair_said k0_said =
     let d = level_data c x pair k0 in
     let s : Result CertBody CertFault = Ok (K0 x pair k0) in
-    step 5 (codes "root") root_of d _ (string (bare_root_text x.root)) x.root s refl (root_back x.root) (
-    step 6 (codes "date") date_of d _ (string (day_text x.date)) x.date s refl (date_back x h) (
+    step 5 (codes "root") root_of d _ (string (bare_root_text x.root)) x.root s refl (read_back_root x.root) (
+    step 6 (codes "date") date_of d _ (string (day_text x.date)) x.date s refl (expiry_date_back x h) (
     step 7 (codes "pair") pair_of d _ (pair_data pair) pair s refl pair_said (
     step 8 (codes "k0") word_of d _ (whole_number k0) k0 s refl k0_said refl)))
 
@@ -273,7 +250,7 @@ headed d c named name h v kind_here kind_said line time body_said =
     step 1 (codes "v") (whole_of VERSION_MIN VERSION_MAX) d _ (whole_number c.v) c.v (Ok c) v (whole_back VERSION_MIN VERSION_MAX c.v h.version_first h.version_last) (
     step 2 (codes "kind") kind_of d _ (string name) named (Ok c) kind_here kind_said (
     step 3 (codes "line") (whole_of 1 LINE_MAX) d _ (whole_number c.line) c.line (Ok c) line (whole_back 1 LINE_MAX c.line h.line_first h.line_last) (
-    step 4 (codes "time") time_of d _ (string (clock_text c.time)) c.time (Ok c) time (time_back c.time h.time) (
+    step 4 (codes "time") time_of d _ (string (clock_text c.time)) c.time (Ok c) time (read_back_clock c.time h.time) (
     goes (body_of named d) _ c.body (Ok c) body_said refl))))
 
 -- kind k0

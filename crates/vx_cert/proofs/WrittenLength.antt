@@ -47,16 +47,16 @@ is_plain x = nat_le 32 x && not (x == 34) && not (x == 92)
 letter_none : (x : ℕ) → is_plain x ≡ true → escape_letter x ≡ 0
 letter_none x h = grind (arith, nat_tests)
 
-plain_byte : (x : ℕ) → is_plain x ≡ true → escape_byte x ≡ x ∷ []
+plain_byte_stays : (x : ℕ) → is_plain x ≡ true → escape_byte x ≡ x ∷ []
 unfolding escape_byte
-plain_byte x h = let no_letter = letter_none x h in let above : nat_lt x 32 ≡ false = grind (arith, nat_tests) in rw (no_letter, above) refl
+plain_byte_stays x h = let no_letter = letter_none x h in let above : nat_lt x 32 ≡ false = grind (arith, nat_tests) in rw (no_letter, above) refl
 
 length-escape : (xs : List ℕ) → list_all is_plain xs ≡ true → length (escape xs) ≡ length xs
 length-escape [] h = refl
 length-escape (x ∷ xs) h =
     let p = and_parts (is_plain x) (list_all is_plain xs) h in
     let rest = length-escape xs p.1 in
-    rw (plain_byte x p.0) (omega arith)
+    rw (plain_byte_stays x p.0) (omega arith)
 
 -- a text as it is written, with its two quotes
 pub length-quoted : (xs : List ℕ) → list_all is_plain xs ≡ true → length (quoted xs) ≡ 2 + length xs
@@ -251,13 +251,13 @@ object_length k d {ms} a plain h rest =
     let key = length-quoted k plain in
     omega (arith, rest.holds, length-append (quoted k) (58 ∷ (compact_text d ++ members_text true ms)), length-append (compact_text d) (members_text true ms))
 
-no_more : ShortMembers no_members 1
-no_more = record { holds = omega arith }
+no_members_are_short : ShortMembers no_members 1
+no_members_are_short = record { holds = omega arith }
 
 -- a term
 term_length : (term : CertTerm) → IsTermInRange term → FitsTerm term → length (compact_text (term_data term)) ≤ 163231
 term_length term h fits =
-    let w = more (codes "w") (ends_data term.w) 85 refl (ends_length term.w h.w) no_more in
+    let w = more (codes "w") (ends_data term.w) 85 refl (ends_length term.w h.w) no_members_are_short in
     let s = more (codes "s") (ends_data term.s) 85 refl (ends_length term.s h.s) w in
     let strip : length (compact_text (rows_data term.rows)) ≤ 162001 = omega (arith, rows_length term.rows fits.rows h.rows_some, h.rows_most) in
     let rows = more (codes "rows") (rows_data term.rows) 162001 refl strip s in
@@ -277,7 +277,7 @@ term_length term h fits =
 
 level_length : (c : Certificate) (x : Expiry) (pair : Pair) (k0 : ℕ) → IsCertificateInRange c → FitsPair pair → k0 ≤ 2 ^ 32 - 1 → length (compact_text (level_data c x pair k0)) ≤ 132
 level_length c x pair k0 h pair_fits k0_fits =
-    let v = more (codes "v") (whole_number c.v) 1 refl (version_length c h) no_more in
+    let v = more (codes "v") (whole_number c.v) 1 refl (version_length c h) no_members_are_short in
     let time = more (codes "time") (string (clock_text c.time)) 7 refl (clock_length c.time h.time) v in
     let root = more (codes "root") (string (bare_root_text x.root)) 6 refl (root_length x.root) time in
     let closest = more (codes "pair") (pair_data pair) 24 refl (pair_length pair pair_fits) root in
@@ -290,7 +290,7 @@ level_length c x pair k0 h pair_fits k0_fits =
 single_length : (name : List ℕ) (c : Certificate) (term : CertTerm) (f : CertFigure) → length (compact_text (string name)) ≤ 8 → IsCertificateInRange c → IsTermInRange term → IsFigureInRange f → FitsTerm term
     → length (compact_text (one_term_data name c term f)) ≤ 163453
 single_length name c term f name_fits h term_in f_in fits =
-    let x = more (codes "x") (ends_data f.x) 85 refl (ends_length f.x f_in.x) no_more in
+    let x = more (codes "x") (ends_data f.x) 85 refl (ends_length f.x f_in.x) no_members_are_short in
     let v = more (codes "v") (whole_number c.v) 1 refl (version_length c h) x in
     let time = more (codes "time") (string (clock_text c.time)) 7 refl (clock_length c.time h.time) v in
     let inner = more (codes "term") (term_data term) 163231 refl (term_length term term_in fits) time in
@@ -302,7 +302,7 @@ single_length name c term f name_fits h term_in f_in fits =
 index_length : (c : Certificate) (days : ℕ) (near next : CertTerm) (f : CertFigure) → IsCertificateInRange c → days ≤ 1000 → IsTermInRange near → IsTermInRange next → IsFigureInRange f → FitsTerm near → FitsTerm next
     → length (compact_text (index_data c days near next f)) ≤ 326703
 index_length c days near next f h few near_in next_in f_in near_fits next_fits =
-    let x = more (codes "x") (ends_data f.x) 85 refl (ends_length f.x f_in.x) no_more in
+    let x = more (codes "x") (ends_data f.x) 85 refl (ends_length f.x f_in.x) no_members_are_short in
     let v = more (codes "v") (whole_number c.v) 1 refl (version_length c h) x in
     let time = more (codes "time") (string (clock_text c.time)) 7 refl (clock_length c.time h.time) v in
     let second = more (codes "next") (term_data next) 163231 refl (term_length next next_in next_fits) time in

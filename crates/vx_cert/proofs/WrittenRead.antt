@@ -129,8 +129,8 @@ mutual
 abbrev whole : Option (json.Json × List Token) → Option Data
 whole o = option_and_then of_json (option_and_then (λ p. json.if_last p.0 p.1) o)
 
-text_read : (d : Data) → IsRead d → depth d ≤ max_depth → read (compact_text d) ≡ Some d
-text_read d h shallow =
+value_is_read : (d : Data) → IsRead d → depth d ≤ max_depth → read (compact_text d) ≡ Some d
+value_is_read d h shallow =
     let j = outline d in
     let lexed = tokens-print (tree.json_tokens j) (ArePrintable-json_tokens j (value_printed d h)) ∙ sym (append-nil (tree.json_tokens j)) in
     ap read (sym (print-outline d))
@@ -159,8 +159,34 @@ pair_is_read pair h = (omega (arith, h.strike), (signed_is_read pair.d (omega (a
 
 term_is_read : (term : CertTerm) → IsTermInRange term → FitsTerm term → IsRead (term_data term)
 term_is_read term h fits =
-    let rate = signed_is_read term.rate (omega (arith, ints, h.rate_least, h.rate_greatest)) in
-    ((tt, ((tt, (tt, tt)), ((terms_are_read term.t_lo, (terms_are_read term.t_hi, tt)), ((tt, (tt, tt)), ((tt, (tt, tt)), (omega (arith, fits.k0), (omega (arith, h.minutes_last), (pair_is_read term.pair fits.pair, (rate, (tt, (rows_are_read term.rows fits.rows, ((tt, (tt, tt)), ((tt, (tt, tt)), tt))))))))))))), refl)
+    let rate = signed_is_read term.rate (omega (arith, ints, h.rate_least, h.rate_greatest)) in (
+      (
+        tt,
+        (
+          (tt, (tt, tt)),
+          (
+            (terms_are_read term.t_lo, (terms_are_read term.t_hi, tt)),
+            (
+              (tt, (tt, tt)),
+              (
+                (tt, (tt, tt)),
+                (
+                  omega (arith, fits.k0),
+                  (
+                    omega (arith, h.minutes_last),
+                    (
+                      pair_is_read term.pair fits.pair,
+                      (rate, (tt, (rows_are_read term.rows fits.rows, ((tt, (tt, tt)), ((tt, (tt, tt)), tt))))),
+                    ),
+                  ),
+                ),
+              ),
+            ),
+          ),
+        ),
+      ),
+      refl,
+    )
 
 by_kind : (c : Certificate) (body : CertBody) → c.line < 2 ^ 64 → c.v < 2 ^ 64 → IsBodyInRange body → FitsBody body → IsRead (data_by_kind c body)
 by_kind c (K0 expiry pair k0) line version inside fits = ((tt, (omega (arith, fits.1), (tt, (line, (pair_is_read pair fits.0, (tt, (tt, (version, tt)))))))), refl)
@@ -172,7 +198,7 @@ by_kind c (Soq term figure) line version inside fits =
     ((omega (arith, inside.1.cents), ((tt, (tt, tt)), (tt, (line, (term_is_read term inside.0 fits, (tt, (version, ((tt, (tt, tt)), tt)))))))), refl)
 
 -- a certificate that is read back from its value has a line that is read as that value
-pub line_is_read : (c : Certificate) → IsCertificateInRange c → IsReadBack c → read (certificate_line c) ≡ Some (certificate_data c)
-line_is_read c h back =
+pub written_line_is_read : (c : Certificate) → IsCertificateInRange c → IsReadBack c → read (certificate_line c) ≡ Some (certificate_data c)
+written_line_is_read c h back =
     let fits = read_fits (certificate_data c) c back.read_back in
-    text_read (certificate_data c) (by_kind c c.body (omega (arith, h.line_last)) (omega (arith, h.version_last)) h.body fits) (certificate_depth c)
+    value_is_read (certificate_data c) (by_kind c c.body (omega (arith, h.line_last)) (omega (arith, h.version_last)) h.body fits) (certificate_depth c)

@@ -6,3 +6,5 @@ pub mod DigitFacts
 pub mod DigitText
 pub mod DayNumbers
 pub mod DayTexts
+pub mod ClockTexts
+pub mod TextRanges

@@ -4,19 +4,16 @@ use Rattle.std.proofs.Common.{slice_index, length, ℤ, pos, neg_ℤ, Option, So
 use Rattle.std.specs.Prelude.{nat_le, nat_lt, ◌==◌}
 use Rattle.std.specs.Option.{option_map}
 use Rattle.std.specs.Result.{result_ok}
-use Rattle.std.proofs.lemmas.Bool.{and_parts, leb-true, ltb-false, not-false}
+use Rattle.std.proofs.lemmas.Bool.{and_parts, leb-true, ltb-false}
 use Rattle.std.proofs.lemmas.Int.{ints}
-use Rattle.jiff_core.specs.Calendar.{IsCivilDate, days_in_month}
 use Rattle.vx_num.specs.Decimal.{decimal_of, is_decimal, places_of, scaled_value}
 use Rattle.vx_num.specs.declared.fault.DecimalFault.{DecimalFault}
 use Rattle.vx_num.specs.declared.fault.DecimalFault.TheVariants.{NotDigit, Places, TooLarge}
 use Rattle.vx_clock.specs.declared.days.DayNo.{DayNo}
-use Rattle.vx_clock.specs.declared.days.DayFault.{DayFault}
-use Rattle.vx_clock.specs.declared.days.DayFault.TheVariants.{Form, Year, NoSuchDay}
 use Rattle.vx_clock.specs.declared.terms.Root.{Root}
-use Rattle.vx_clock.specs.Day.{IsDayInRange, day_number, is_year_in_range, is_in_calendar, day_of_date, day_of_text, has_day_form}
+use Rattle.vx_clock.specs.Day.{IsDayInRange, day_of_date, day_of_text}
 use Rattle.vx_clock.specs.Digits.{are_digits, digits_value}
-use Rattle.vx_clock.proofs.DayNumbers.{days_from_civil_range}
+use Rattle.vx_clock.proofs.TextRanges.{day_of_date_range, day_of_text_range, past_fault, past_test, some_test, time_of_text_range}
 use Rattle.vx_symbol.specs.Rows.{IsRateInRange}
 use Rattle.vx_symbol.specs.Symbol.{date_of_digits, strike_of, side_of, root_of, is_strike_in_range, IsStrikeInRange, IsSymbolInRange}
 use Rattle.vx_symbol.specs.Symbol.{symbol_of_fields, symbol_of_text}
@@ -28,33 +25,18 @@ use Rattle.vx_feed.specs.declared.events.Event.TheVariants as event
 use Rattle.vx_feed.specs.declared.faults.FeedFault.TheVariants as fault
 use Rattle.vx_feed.specs.declared.kinds.Kind.{Kind}
 use Rattle.vx_feed.specs.declared.kinds.Kind.TheVariants as kind
-use Rattle.vx_clock.specs.Clock.{has_time_form, minute_of, time_of_text}
+use Rattle.vx_clock.specs.Clock.{time_of_text}
 use Rattle.vx_clock.specs.RootText.{root_of_text}
 use Rattle.vx_feed.specs.Form.{is_version, date_of_text, rate_of_text, price_of_text, if_positive, count_of_text, series_of_text, header_event}
 use Rattle.vx_feed.specs.Form.{expiry_event, rate_event, series_event, quote_event, trade_event, tick_event, opening_event, end_event, field}
 use Rattle.vx_feed.specs.Form.{field_count, kind_of_text, event_of_kind, event_if_counted, event_of_fields}
-use Rattle.vx_feed.specs.Ranges.{IsMinute, IsPrice, IsInRange}
+use Rattle.vx_feed.specs.Ranges.{IsMinute, IsPrice, IsEventInRange}
 
 -- ---- what an answer says of the tests before it
 
-module _ {A E : Type 0} where
-  -- where the choice of a fault or a result came to a value, its condition was false and the result is that value
-  pub past_fault : (a : Bool) (x : E) (r : Result A E) (v : A) → cond a (Err x) r ≡ Ok v → (a ≡ false) × (r ≡ Ok v)
-  past_fault true x r v h = absurd cc
-  past_fault false x r v h = (refl, h)
-
-  -- and where the result stands first, the condition was true
-  pub past_test : (a : Bool) (x : E) (r : Result A E) (v : A) → cond a r (Err x) ≡ Ok v → (a ≡ true) × (r ≡ Ok v)
-  past_test true x r v h = (refl, h)
-  past_test false x r v h = absurd cc
-
-  ok_of : (r : Result A E) (v : A) → result_ok r ≡ Some v → r ≡ Ok v
-  ok_of (Ok x) v h = let same : x ≡ v = cc in cc
-  ok_of (Err x) v h = absurd cc
-
-some_test : {A : Type 0} (a : Bool) (o : Option A) (v : A) → cond a o None ≡ Some v → (a ≡ true) × (o ≡ Some v)
-some_test true o v h = (refl, h)
-some_test false o v h = absurd cc
+ok_of : {A E : Type 0} (r : Result A E) (v : A) → result_ok r ≡ Some v → r ≡ Ok v
+ok_of (Ok x) v h = let same : x ≡ v = cc in cc
+ok_of (Err x) v h = absurd cc
 
 -- what is mapped
 mapped : {A B : Type 0} (f : A → B) (o : Option A) (v : B) → option_map f o ≡ Some v → (x : A) × (o ≡ Some x) × (f x ≡ v)
@@ -80,47 +62,10 @@ decimal_some text places max v h = decimal_max text places max v (ok_of (decimal
 
 -- ---- days
 
-day_of_date_range : (y m d : ℕ) (x : DayNo) → day_of_date y m d ≡ Ok x → IsDayInRange x
-day_of_date_range y m d x h =
-    let found : Result DayNo DayFault = Ok (record { 0 = day_number y m d }) in
-    let year = past_fault (not (is_year_in_range y)) Year (cond (is_in_calendar y m d) found (Err NoSuchDay)) x h in
-    let there = past_test (is_in_calendar y m d) NoSuchDay found x year.1 in
-    let y_in = and_parts (nat_le 2000 y) (nat_le y 2099) (not-false (is_year_in_range y) year.0) in
-    let parts = and_parts (nat_le 1 m && nat_le m 12) (nat_le 1 d && nat_le d (days_in_month (pos y) m)) there.0 in
-    let m_in = and_parts (nat_le 1 m) (nat_le m 12) parts.0 in
-    let d_in = and_parts (nat_le 1 d) (nat_le d (days_in_month (pos y) m)) parts.1 in
-    let low : 2000 ≤ y = leb-true 2000 y y_in.0 in
-    let high : y ≤ 2099 = leb-true y 2099 y_in.1 in
-    let civil : IsCivilDate (pos y) m d = (
-      (omega (arith, ints), omega (arith, ints)),
-      (leb-true 1 m m_in.0, leb-true m 12 m_in.1),
-      (leb-true 1 d d_in.0, leb-true d (days_in_month (pos y) m) d_in.1),
-    ) in
-    let is : record { 0 = day_number y m d } ≡ x = cc in
-    subst IsDayInRange is (days_from_civil_range y m d low high civil)
-
 date_range : (text : List ℕ) (x : DayNo) → date_of_text text ≡ Some x → IsDayInRange x
-date_range text x h =
-    let y = digits_value (take 4 text) in
-    let m = digits_value (slice_range text 5 7) in
-    let d = digits_value (slice_range text 8 10) in
-    day_of_date_range y m d x (past_test (has_day_form text) Form (day_of_date y m d) x (ok_of (day_of_text text) x h)).1
+date_range text x h = day_of_text_range text x (ok_of (day_of_text text) x h)
 
 -- ---- times, rates, prices, series
-
-minute_range : (hour minute v : ℕ) → minute_of hour minute ≡ Some v → v ≤ 1439
-minute_range hour minute v h =
-    let found = some_test (nat_le hour 23 && nat_le minute 59) (Some (60 * hour + minute)) v h in
-    let parts = and_parts (nat_le hour 23) (nat_le minute 59) found.0 in
-    let a = leb-true hour 23 parts.0 in
-    let b = leb-true minute 59 parts.1 in
-    let is : 60 * hour + minute ≡ v = cc in
-    omega arith
-
-time_range : (text : List ℕ) (v : ℕ) → time_of_text text ≡ Some v → IsMinute v
-time_range text v h =
-    minute_range (digits_value (take 2 text)) (digits_value (slice_range text 3 5)) v
-    (some_test (has_time_form text) (minute_of (digits_value (take 2 text)) (digits_value (slice_range text 3 5))) v h).1
 
 below_zero_range : (o : Option ℕ) (v : ℤ) → ((n : ℕ) → o ≡ Some n → n ≤ 5000000) → option_map (λ units. neg_ℤ (pos units)) o ≡ Some v → IsRateInRange v
 below_zero_range o v most h =
@@ -197,59 +142,59 @@ series_range text x h =
 abbrev IsRanged : {A : Type 0} → (A → Type 0) → Option A → Type 0
 IsRanged {A} P o = (x : A) → o ≡ Some x → P x
 
-header_range : (b : Bool) (d : Option DayNo) (e : Event) → IsRanged IsDayInRange d → header_event b d ≡ Ok e → IsInRange e
+header_range : (b : Bool) (d : Option DayNo) (e : Event) → IsRanged IsDayInRange d → header_event b d ≡ Ok e → IsEventInRange e
 header_range false d e f h = absurd cc
 header_range true None e f h = absurd cc
-header_range true (Some d) e f h = let is : event.Header d ≡ e = cc in subst IsInRange is (f d refl)
+header_range true (Some d) e f h = let is : event.Header d ≡ e = cc in subst IsEventInRange is (f d refl)
 
-expiry_range : (r : Option Root) (d : Option DayNo) (e : Event) → IsRanged IsDayInRange d → expiry_event r d ≡ Ok e → IsInRange e
+expiry_range : (r : Option Root) (d : Option DayNo) (e : Event) → IsRanged IsDayInRange d → expiry_event r d ≡ Ok e → IsEventInRange e
 expiry_range None d e f h = absurd cc
 expiry_range (Some r) None e f h = absurd cc
-expiry_range (Some r) (Some d) e f h = let is : event.Expiry (record { root = r; date = d }) ≡ e = cc in subst IsInRange is (f d refl)
+expiry_range (Some r) (Some d) e f h = let is : event.Expiry (record { root = r; date = d }) ≡ e = cc in subst IsEventInRange is (f d refl)
 
 rate_line_range : (r : Option Root) (d : Option DayNo) (v : Option ℤ) (e : Event) → IsRanged IsDayInRange d → IsRanged IsRateInRange v
-    → rate_event r d v ≡ Ok e → IsInRange e
+    → rate_event r d v ≡ Ok e → IsEventInRange e
 rate_line_range None d v e f g h = absurd cc
 rate_line_range (Some r) None v e f g h = absurd cc
 rate_line_range (Some r) (Some d) None e f g h = absurd cc
-rate_line_range (Some r) (Some d) (Some v) e f g h = let is : event.Rate (record { root = r; date = d }) v ≡ e = cc in subst IsInRange is (f d refl, g v refl)
+rate_line_range (Some r) (Some d) (Some v) e f g h = let is : event.Rate (record { root = r; date = d }) v ≡ e = cc in subst IsEventInRange is (f d refl, g v refl)
 
-series_line_range : (s : Option Symbol) (e : Event) → IsRanged IsSymbolInRange s → series_event s ≡ Ok e → IsInRange e
+series_line_range : (s : Option Symbol) (e : Event) → IsRanged IsSymbolInRange s → series_event s ≡ Ok e → IsEventInRange e
 series_line_range None e f h = absurd cc
-series_line_range (Some s) e f h = let is : event.Series s ≡ e = cc in subst IsInRange is (f s refl)
+series_line_range (Some s) e f h = let is : event.Series s ≡ e = cc in subst IsEventInRange is (f s refl)
 
 quote_range : (t : Option ℕ) (s : Option Symbol) (a b : Option ℕ) (e : Event) → IsRanged IsMinute t → IsRanged IsSymbolInRange s → IsRanged IsPrice a
-    → IsRanged IsPrice b → quote_event t s a b ≡ Ok e → IsInRange e
+    → IsRanged IsPrice b → quote_event t s a b ≡ Ok e → IsEventInRange e
 quote_range None s a b e f g p q h = absurd cc
 quote_range (Some t) None a b e f g p q h = absurd cc
 quote_range (Some t) (Some s) None b e f g p q h = absurd cc
 quote_range (Some t) (Some s) (Some a) None e f g p q h = absurd cc
 quote_range (Some t) (Some s) (Some a) (Some b) e f g p q h =
-    let is : event.Quote t s a b ≡ e = cc in subst IsInRange is (f t refl, g s refl, p a refl, q b refl)
+    let is : event.Quote t s a b ≡ e = cc in subst IsEventInRange is (f t refl, g s refl, p a refl, q b refl)
 
 trade_range : (t : Option ℕ) (s : Option Symbol) (a : Option ℕ) (e : Event) → IsRanged IsMinute t → IsRanged IsSymbolInRange s
-    → IsRanged (λ n. (1 ≤ n) × IsPrice n) a → trade_event t s a ≡ Ok e → IsInRange e
+    → IsRanged (λ n. (1 ≤ n) × IsPrice n) a → trade_event t s a ≡ Ok e → IsEventInRange e
 trade_range None s a e f g p h = absurd cc
 trade_range (Some t) None a e f g p h = absurd cc
 trade_range (Some t) (Some s) None e f g p h = absurd cc
 trade_range (Some t) (Some s) (Some a) e f g p h =
     let is : event.Trade t s a ≡ e = cc in
     let price = p a refl in
-    subst IsInRange is (f t refl, g s refl, price.0, price.1)
+    subst IsEventInRange is (f t refl, g s refl, price.0, price.1)
 
-tick_range : (t : Option ℕ) (e : Event) → IsRanged IsMinute t → tick_event t ≡ Ok e → IsInRange e
+tick_range : (t : Option ℕ) (e : Event) → IsRanged IsMinute t → tick_event t ≡ Ok e → IsEventInRange e
 tick_range None e f h = absurd cc
-tick_range (Some t) e f h = let is : event.Tick t ≡ e = cc in subst IsInRange is (f t refl)
+tick_range (Some t) e f h = let is : event.Tick t ≡ e = cc in subst IsEventInRange is (f t refl)
 
-opening_range : (t : Option ℕ) (e : Event) → IsRanged IsMinute t → opening_event t ≡ Ok e → IsInRange e
+opening_range : (t : Option ℕ) (e : Event) → IsRanged IsMinute t → opening_event t ≡ Ok e → IsEventInRange e
 opening_range None e f h = absurd cc
-opening_range (Some t) e f h = let is : event.Opening t ≡ e = cc in subst IsInRange is (f t refl)
+opening_range (Some t) e f h = let is : event.Opening t ≡ e = cc in subst IsEventInRange is (f t refl)
 
-end_range : (n : Option ℕ) (e : Event) → IsRanged (λ k. k ≤ 10000000) n → end_event n ≡ Ok e → IsInRange e
+end_range : (n : Option ℕ) (e : Event) → IsRanged (λ k. k ≤ 10000000) n → end_event n ≡ Ok e → IsEventInRange e
 end_range None e f h = absurd cc
-end_range (Some n) e f h = let is : event.End n ≡ e = cc in subst IsInRange is (f n refl)
+end_range (Some n) e f h = let is : event.End n ≡ e = cc in subst IsEventInRange is (f n refl)
 
-kind_range : (k : Kind) (f : List (List ℕ)) (e : Event) → event_of_kind k f ≡ Ok e → IsInRange e
+kind_range : (k : Kind) (f : List (List ℕ)) (e : Event) → event_of_kind k f ≡ Ok e → IsEventInRange e
 kind_range kind.Header f e h = header_range (is_version (field f 2)) (date_of_text (field f 3)) e (date_range (field f 3)) h
 kind_range kind.Expiry f e h = expiry_range (root_of_text (field f 2)) (date_of_text (field f 3)) e (date_range (field f 3)) h
 kind_range kind.Rate f e h =
@@ -257,18 +202,18 @@ kind_range kind.Rate f e h =
 kind_range kind.Series f e h = series_line_range (series_of_text (field f 2)) e (series_range (field f 2)) h
 kind_range kind.Quote f e h =
     quote_range (time_of_text (field f 2)) (series_of_text (field f 3)) (price_of_text (field f 4)) (price_of_text (field f 5)) e
-    (time_range (field f 2)) (series_range (field f 3)) (price_range (field f 4)) (price_range (field f 5)) h
+    (time_of_text_range (field f 2)) (series_range (field f 3)) (price_range (field f 4)) (price_range (field f 5)) h
 kind_range kind.Trade f e h =
     trade_range (time_of_text (field f 2)) (series_of_text (field f 3)) (if_positive (price_of_text (field f 4))) e
-    (time_range (field f 2)) (series_range (field f 3)) (λ v. positive_range (price_of_text (field f 4)) v (price_range (field f 4))) h
-kind_range kind.Tick f e h = tick_range (time_of_text (field f 2)) e (time_range (field f 2)) h
-kind_range kind.Opening f e h = opening_range (time_of_text (field f 2)) e (time_range (field f 2)) h
+    (time_of_text_range (field f 2)) (series_range (field f 3)) (λ v. positive_range (price_of_text (field f 4)) v (price_range (field f 4))) h
+kind_range kind.Tick f e h = tick_range (time_of_text (field f 2)) e (time_of_text_range (field f 2)) h
+kind_range kind.Opening f e h = opening_range (time_of_text (field f 2)) e (time_of_text_range (field f 2)) h
 kind_range kind.End f e h = end_range (count_of_text (field f 2)) e (decimal_some (field f 2) 0 10000000) h
 
-counted_range : (k : Option Kind) (f : List (List ℕ)) (e : Event) → event_if_counted k f ≡ Ok e → IsInRange e
+counted_range : (k : Option Kind) (f : List (List ℕ)) (e : Event) → event_if_counted k f ≡ Ok e → IsEventInRange e
 counted_range None f e h = absurd cc
 counted_range (Some k) f e h = kind_range k f e (past_test (length f == field_count k) fault.Fields (event_of_kind k f) e h).1
 
 -- the event that fields say is in range
-pub event_in_range : (f : List (List ℕ)) (e : Event) → event_of_fields f ≡ Ok e → IsInRange e
+pub event_in_range : (f : List (List ℕ)) (e : Event) → event_of_fields f ≡ Ok e → IsEventInRange e
 event_in_range f e h = counted_range (kind_of_text (field f 1)) f e h

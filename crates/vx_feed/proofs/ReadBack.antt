@@ -16,7 +16,7 @@ use Rattle.vx_clock.specs.declared.terms.Root.TheVariants.{Spx, Spxw}
 use Rattle.vx_clock.specs.Clock.{clock_text}
 use Rattle.vx_clock.specs.Day.{IsDayInRange}
 use Rattle.vx_clock.specs.DayText.{day_text}
-use Rattle.vx_clock.proofs.DigitText.{is_digit as is_digit_at}
+use Rattle.vx_clock.proofs.ClockTexts.{read_back_clock, read_back_root}
 use Rattle.vx_clock.proofs.DayTexts.{read_back_day}
 use Rattle.vx_symbol.specs.declared.symbols.Side.{Side}
 use Rattle.vx_symbol.specs.declared.symbols.Side.TheVariants.{Call, Put}
@@ -26,15 +26,14 @@ use Rattle.vx_symbol.specs.Symbol.{IsSymbolInRange}
 use Rattle.vx_symbol.specs.SymbolText.{symbol_text}
 use Rattle.vx_symbol.proofs.SymbolTexts.{read_back_symbol}
 use Rattle.vx_fields.specs.Lines.{comma, is_plain, fields_of_line}
+use Rattle.vx_fields.proofs.CsvLines.{both_left, both_right}
 use Rattle.vx_feed.specs.declared.events.Event.{Event}
 use Rattle.vx_feed.specs.declared.events.Event.TheVariants as event
 use Rattle.vx_feed.specs.declared.kinds.Kind.TheVariants as kind
 use Rattle.vx_feed.specs.Feed.{event_of_line, event_in_order, event_unless}
-use Rattle.vx_clock.specs.Clock.{time_of_text}
-use Rattle.vx_clock.specs.RootText.{root_of_text}
 use Rattle.vx_feed.specs.Form.{event_of_fields, date_of_text, rate_of_text, price_of_text, if_positive, count_of_text, series_of_text, kind_text}
 use Rattle.vx_feed.specs.Order.{IsLawfulNext, order_fault}
-use Rattle.vx_feed.specs.Ranges.{IsInRange}
+use Rattle.vx_feed.specs.Ranges.{IsEventInRange}
 use Rattle.vx_clock.specs.RootText.{bare_root_text}
 use Rattle.vx_feed.specs.Written.{behind_commas, event_line, kind_of_event, price_text, rate_text, value_fields}
 
@@ -55,14 +54,6 @@ digit_is d h = grind (arith, nat_tests)
 
 digit_at_is : (n unit : ℕ) → is_field_byte (48 + n / unit % 10) ≡ true
 digit_at_is n unit = digit_is (n / unit % 10) (omega arith)
-
-both_left : (a b : Bool) → (a && b) ≡ true → a ≡ true
-both_left true b h = refl
-both_left false b h = h
-
-both_right : (a b : Bool) → (a && b) ≡ true → b ≡ true
-both_right true b h = h
-both_right false b h = cc
 
 both : (a b : Bool) → a ≡ true → b ≡ true → (a && b) ≡ true
 both a b h k = rw (h, k) refl
@@ -122,7 +113,7 @@ kind_are (event.Tick time) = refl
 kind_are (event.Opening time) = refl
 kind_are (event.End count) = refl
 
-values_are : (e : Event) → IsInRange e → list_all are_field_bytes (value_fields e) ≡ true
+values_are : (e : Event) → IsEventInRange e → list_all are_field_bytes (value_fields e) ≡ true
 values_are (event.Header day) is = rw (day_are day) refl
 values_are (event.Expiry x) is = rw (root_are x.root, day_are x.date) refl
 values_are (event.Rate x rate) is = rw (root_are x.root, day_are x.date, rate_are rate) refl
@@ -153,13 +144,13 @@ fields_back field (next ∷ fields) h all =
     slice_split_at is_comma field comma (next ++ behind_commas fields) (no_commas field h) refl
     ∙ ap (λ fs. field ∷ fs) (fields_back next fields (both_left (are_field_bytes next) (list_all are_field_bytes fields) all) (both_right (are_field_bytes next) (list_all are_field_bytes fields) all))
 
-plain_byte : (b : ℕ) → is_field_byte b ≡ true → is_plain b ≡ true
-plain_byte b h = both_left (is_plain b) (not (b == comma)) h
+field_byte_is_plain : (b : ℕ) → is_field_byte b ≡ true → is_plain b ≡ true
+field_byte_is_plain b h = both_left (is_plain b) (not (b == comma)) h
 
 plain_field : (text : List ℕ) → are_field_bytes text ≡ true → list_all is_plain text ≡ true
 plain_field [] h = refl
 plain_field (b ∷ bs) h =
-    both (is_plain b) (list_all is_plain bs) (plain_byte b (both_left (is_field_byte b) (are_field_bytes bs) h)) (plain_field bs (both_right (is_field_byte b) (are_field_bytes bs) h))
+    both (is_plain b) (list_all is_plain bs) (field_byte_is_plain b (both_left (is_field_byte b) (are_field_bytes bs) h)) (plain_field bs (both_right (is_field_byte b) (are_field_bytes bs) h))
 
 plain_joined : (xs ys : List ℕ) → list_all is_plain xs ≡ true → list_all is_plain ys ≡ true → list_all is_plain (xs ++ ys) ≡ true
 plain_joined xs ys h k = list_all-append is_plain xs ys ∙ both (list_all is_plain xs) (list_all is_plain ys) h k
@@ -171,10 +162,6 @@ plain_behind (field ∷ fields) h =
     (plain_behind fields (both_right (are_field_bytes field) (list_all are_field_bytes fields) h))
 
 -- ---- each part is read back
-
-root_back : (root : Root) → root_of_text (bare_root_text root) ≡ Some root
-root_back Spx = refl
-root_back Spxw = refl
 
 date_back : (day : DayNo) → IsDayInRange day → date_of_text (day_text day) ≡ Some day
 date_back day is = ap result_ok (read_back_day day is)
@@ -193,37 +180,20 @@ trade_price_back price low most =
 count_back : (count : ℕ) → count ≤ 10000000 → count_of_text (decimal_text count 0) ≡ Some count
 count_back count most = ap result_ok (read_back_decimal count 0 10000000 most)
 
-two_digits_back : (hour minute : ℕ) → hour ≤ 23 → minute ≤ 59 → time_of_text ((48 + hour / 10) ∷ (48 + hour % 10) ∷ 58 ∷ (48 + minute / 10) ∷ (48 + minute % 10) ∷ []) ≡ Some (60 * hour + minute)
-two_digits_back hour minute h m =
-    let h1 = is_digit_at (hour / 10) (omega arith) in
-    let h2 = is_digit_at (hour % 10) (omega arith) in
-    let m1 = is_digit_at (minute / 10) (omega arith) in
-    let m2 = is_digit_at (minute % 10) (omega arith) in
-    let hours : 10 * (10 * 0 + (48 + hour / 10 - 48)) + (48 + hour % 10 - 48) ≡ hour = omega arith in
-    let minutes : 10 * (10 * 0 + (48 + minute / 10 - 48)) + (48 + minute % 10 - 48) ≡ minute = omega arith in
-    let least : nat_le hour 23 ≡ true = grind (arith, nat_tests) in
-    let most : nat_le minute 59 ≡ true = grind (arith, nat_tests) in
-    rw (h1, h2, m1, m2) (rw (hours, minutes, least, most) refl)
-
-time_back : (time : ℕ) → time ≤ 1439 → time_of_text (clock_text time) ≡ Some time
-time_back time most =
-    let same : 60 * (time / 60) + time % 60 ≡ time = omega arith in
-    two_digits_back (time / 60) (time % 60) (omega arith) (omega arith) ∙ ap Some same
-
 rate_back : (rate : ℤ) → IsRateInRange rate → rate_of_text (rate_text rate) ≡ Some rate
 rate_back rate is = read_back_signed rate 6 5000000 25000000 is.0 is.1
 
 -- ---- the event of a line
 
-event_back : (e : Event) → IsInRange e → event_of_fields (kind_text (kind_of_event e) ∷ value_fields e) ≡ Ok e
+event_back : (e : Event) → IsEventInRange e → event_of_fields (kind_text (kind_of_event e) ∷ value_fields e) ≡ Ok e
 event_back (event.Header day) is = rw (date_back day is) refl
-event_back (event.Expiry x) is = rw (root_back x.root, date_back x.date is) refl
-event_back (event.Rate x rate) is = rw (root_back x.root, date_back x.date is.0, rate_back rate is.1) refl
+event_back (event.Expiry x) is = rw (read_back_root x.root, date_back x.date is) refl
+event_back (event.Rate x rate) is = rw (read_back_root x.root, date_back x.date is.0, rate_back rate is.1) refl
 event_back (event.Series s) is = rw (series_back s is) refl
-event_back (event.Quote time s bid ask) is = rw (time_back time is.0, series_back s is.1, price_back bid is.2, price_back ask is.3) refl
-event_back (event.Trade time s price) is = rw (time_back time is.0, series_back s is.1, trade_price_back price is.2 is.3) refl
-event_back (event.Tick time) is = rw (time_back time is) refl
-event_back (event.Opening time) is = rw (time_back time is) refl
+event_back (event.Quote time s bid ask) is = rw (read_back_clock time is.0, series_back s is.1, price_back bid is.2, price_back ask is.3) refl
+event_back (event.Trade time s price) is = rw (read_back_clock time is.0, series_back s is.1, trade_price_back price is.2 is.3) refl
+event_back (event.Tick time) is = rw (read_back_clock time is) refl
+event_back (event.Opening time) is = rw (read_back_clock time is) refl
 event_back (event.End count) is = rw (count_back count is) refl
 
 kind_some : (e : Event) (rest : List ℕ) → (length (kind_text (kind_of_event e) ++ rest) == 0) ≡ false

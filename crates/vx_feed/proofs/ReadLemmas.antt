@@ -1,5 +1,5 @@
 -- A line that can be split: its fields in a table of one line, and its event.
-use Rattle.std.proofs.Common.{◌≡◌, ◌∙◌, sym, ap, refl, ℕ, Bool, true, false, cond, ◌==◌, List, [], ◌∷◌, ◌++◌, length, map, Option, Some, None, Result, Err}
+use Rattle.std.proofs.Common.{◌≡◌, ◌∙◌, sym, ap, refl, ℕ, Bool, true, false, cond, ◌==◌, List, [], ◌∷◌, ◌++◌, length, map, Some, None, Result, Err}
 use Rattle.std.specs.List.{list_all, slice_get}
 use Rattle.vx_fields.specs.Lines.{fields_of_line, is_plain, why_unsplit}
 use Rattle.vx_fields.specs.declared.line.Unsplit.{Unsplit}

@@ -13,7 +13,8 @@ use Rattle.vx_feed.specs.Feed.{event_unless, event_in_order, next_event, event_o
 use Rattle.vx_feed.specs.Feed.{stopped_at, with_cause, reading_at_end, reading_after, reading_from, reading_of}
 use Rattle.vx_feed.specs.Order.{is_end, order_fault, IsLawfulNext, AreLawful}
 use Rattle.vx_feed.specs.LawfulPrefixes.{PrefixIsLawful, BadLineFollowsPrefix, LawfulFeedEnds}
-use Rattle.vx_feed.proofs.EventRanges.{past_fault, past_test, event_in_range}
+use Rattle.vx_clock.proofs.TextRanges.{past_fault, past_test}
+use Rattle.vx_feed.proofs.EventRanges.{event_in_range}
 use Rattle.vx_feed.proofs.EndLaws.{end_is_last}
 use Rattle.vx_feed.proofs.LawfulLists.{lawful_with_one_more}
 

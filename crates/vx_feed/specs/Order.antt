@@ -14,7 +14,7 @@ use Rattle.vx_feed.specs.declared.faults.FeedFault.TheVariants as fault
 use Rattle.vx_feed.specs.declared.limits.TheConstants.{EXPIRIES_MAX, LINES_MAX, EXPIRY_DAYS_MAX}
 use Rattle.vx_feed.specs.Standing.{is_opening}
 use Rattle.vx_feed.specs.Listed.{declared_expiries, expiry_of, is_declared, is_listed, strikes_of, trade_date}
-use Rattle.vx_feed.specs.Ranges.{IsInRange}
+use Rattle.vx_feed.specs.Ranges.{IsEventInRange}
 
 abbrev pub is_header : Event → Bool
 is_header (event.Header day) = true
@@ -132,7 +132,7 @@ order_fault before e = first_fault (order_causes before e)
 
 -- an event that may come next after a list of events
 pub record IsLawfulNext (before : List Event) (e : Event) : Type 0 where
-  pub in_range : IsInRange e
+  pub in_range : IsEventInRange e
   pub in_order : order_fault before e ≡ None
 
 -- each of the events may come after those before it, which come after these

@@ -18,13 +18,13 @@ abbrev pub IsPrice : ℕ → Type 0
 IsPrice price = price ≤ PRICE_MAX
 
 -- each value of the event is in its range; a trade is at a cent at least
-abbrev pub IsInRange : Event → Type 0
-IsInRange (event.Header day) = IsDayInRange day
-IsInRange (event.Expiry x) = IsDayInRange x.date
-IsInRange (event.Rate x rate) = IsDayInRange x.date × IsRateInRange rate
-IsInRange (event.Series s) = IsSymbolInRange s
-IsInRange (event.Quote time s bid ask) = IsMinute time × IsSymbolInRange s × IsPrice bid × IsPrice ask
-IsInRange (event.Trade time s price) = IsMinute time × IsSymbolInRange s × (1 ≤ price) × IsPrice price
-IsInRange (event.Tick time) = IsMinute time
-IsInRange (event.Opening time) = IsMinute time
-IsInRange (event.End count) = count ≤ LINES_MAX
+abbrev pub IsEventInRange : Event → Type 0
+IsEventInRange (event.Header day) = IsDayInRange day
+IsEventInRange (event.Expiry x) = IsDayInRange x.date
+IsEventInRange (event.Rate x rate) = IsDayInRange x.date × IsRateInRange rate
+IsEventInRange (event.Series s) = IsSymbolInRange s
+IsEventInRange (event.Quote time s bid ask) = IsMinute time × IsSymbolInRange s × IsPrice bid × IsPrice ask
+IsEventInRange (event.Trade time s price) = IsMinute time × IsSymbolInRange s × (1 ≤ price) × IsPrice price
+IsEventInRange (event.Tick time) = IsMinute time
+IsEventInRange (event.Opening time) = IsMinute time
+IsEventInRange (event.End count) = count ≤ LINES_MAX

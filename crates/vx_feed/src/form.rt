@@ -6,7 +6,7 @@ ghost use Rattle.vx_symbol.specs.Rows.{IsRateInRange};
 ghost use Rattle.vx_symbol.specs.Symbol.{IsSymbolInRange};
 ghost use Rattle.vx_feed.specs.Form as spec;
 ghost use Rattle.vx_feed.specs.declared.kinds.Kind.TheVariants as kind;
-ghost use Rattle.vx_feed.specs.Ranges.{IsInRange, IsPrice};
+ghost use Rattle.vx_feed.specs.Ranges.{IsEventInRange, IsPrice};
 
 use crate::events::Event;
 use crate::faults::FeedFault;
@@ -88,7 +88,7 @@ fn read_count(text: &[u8]) -> Option<u32>
 fn read_header(fields: &Fields<'_>) -> Result<Event, FeedFault>
     requires { length fields.now ≡ 3 }
     ensures value { result ≡ spec.event_of_kind kind.Header fields.now }
-    ensures in_range { IfOk result IsInRange }
+    ensures in_range { IfOk result IsEventInRange }
 {
     if fields.field(1) != b"1".as_slice() {
         return Err(FeedFault::Field(2));
@@ -100,7 +100,7 @@ fn read_header(fields: &Fields<'_>) -> Result<Event, FeedFault>
 fn read_expiry(fields: &Fields<'_>) -> Result<Event, FeedFault>
     requires { length fields.now ≡ 3 }
     ensures value { result ≡ spec.event_of_kind kind.Expiry fields.now }
-    ensures in_range { IfOk result IsInRange }
+    ensures in_range { IfOk result IsEventInRange }
 {
     let root = Root::named(fields.field(1)).ok_or(FeedFault::Field(2))?;
     let date = read_date(fields.field(2)).ok_or(FeedFault::Field(3))?;
@@ -110,7 +110,7 @@ fn read_expiry(fields: &Fields<'_>) -> Result<Event, FeedFault>
 fn read_rate_line(fields: &Fields<'_>) -> Result<Event, FeedFault>
     requires { length fields.now ≡ 4 }
     ensures value { result ≡ spec.event_of_kind kind.Rate fields.now }
-    ensures in_range { IfOk result IsInRange }
+    ensures in_range { IfOk result IsEventInRange }
 {
     let root = Root::named(fields.field(1)).ok_or(FeedFault::Field(2))?;
     let date = read_date(fields.field(2)).ok_or(FeedFault::Field(3))?;
@@ -122,7 +122,7 @@ fn read_rate_line(fields: &Fields<'_>) -> Result<Event, FeedFault>
 fn read_series_line(fields: &Fields<'_>) -> Result<Event, FeedFault>
     requires { length fields.now ≡ 2 }
     ensures value { result ≡ spec.event_of_kind kind.Series fields.now }
-    ensures in_range { IfOk result IsInRange }
+    ensures in_range { IfOk result IsEventInRange }
 {
     let symbol = read_series(fields.field(1)).ok_or(FeedFault::Field(2))?;
     Ok(Event::Series(symbol))
@@ -131,7 +131,7 @@ fn read_series_line(fields: &Fields<'_>) -> Result<Event, FeedFault>
 fn read_quote(fields: &Fields<'_>) -> Result<Event, FeedFault>
     requires { length fields.now ≡ 5 }
     ensures value { result ≡ spec.event_of_kind kind.Quote fields.now }
-    ensures in_range { IfOk result IsInRange }
+    ensures in_range { IfOk result IsEventInRange }
 {
     let time = read_clock(fields.field(1)).ok_or(FeedFault::Field(2))?;
     let symbol = read_series(fields.field(2)).ok_or(FeedFault::Field(3))?;
@@ -148,7 +148,7 @@ fn read_quote(fields: &Fields<'_>) -> Result<Event, FeedFault>
 fn read_trade(fields: &Fields<'_>) -> Result<Event, FeedFault>
     requires { length fields.now ≡ 4 }
     ensures value { result ≡ spec.event_of_kind kind.Trade fields.now }
-    ensures in_range { IfOk result IsInRange }
+    ensures in_range { IfOk result IsEventInRange }
 {
     let time = read_clock(fields.field(1)).ok_or(FeedFault::Field(2))?;
     let symbol = read_series(fields.field(2)).ok_or(FeedFault::Field(3))?;
@@ -163,7 +163,7 @@ fn read_trade(fields: &Fields<'_>) -> Result<Event, FeedFault>
 fn read_tick(fields: &Fields<'_>) -> Result<Event, FeedFault>
     requires { length fields.now ≡ 2 }
     ensures value { result ≡ spec.event_of_kind kind.Tick fields.now }
-    ensures in_range { IfOk result IsInRange }
+    ensures in_range { IfOk result IsEventInRange }
 {
     let time = read_clock(fields.field(1)).ok_or(FeedFault::Field(2))?;
     Ok(Event::Tick { time })
@@ -172,7 +172,7 @@ fn read_tick(fields: &Fields<'_>) -> Result<Event, FeedFault>
 fn read_opening(fields: &Fields<'_>) -> Result<Event, FeedFault>
     requires { length fields.now ≡ 2 }
     ensures value { result ≡ spec.event_of_kind kind.Opening fields.now }
-    ensures in_range { IfOk result IsInRange }
+    ensures in_range { IfOk result IsEventInRange }
 {
     let time = read_clock(fields.field(1)).ok_or(FeedFault::Field(2))?;
     Ok(Event::Opening { time })
@@ -181,7 +181,7 @@ fn read_opening(fields: &Fields<'_>) -> Result<Event, FeedFault>
 fn read_end(fields: &Fields<'_>) -> Result<Event, FeedFault>
     requires { length fields.now ≡ 2 }
     ensures value { result ≡ spec.event_of_kind kind.End fields.now }
-    ensures in_range { IfOk result IsInRange }
+    ensures in_range { IfOk result IsEventInRange }
 {
     let count = read_count(fields.field(1)).ok_or(FeedFault::Field(2))?;
     Ok(Event::End { count })
@@ -198,7 +198,7 @@ fn is_quote(text: &[u8]) -> bool
 #[inline(never)]
 pub(crate) fn read_form(fields: &Fields<'_>) -> Result<Event, FeedFault>
     ensures value { result ≡ spec.event_of_fields fields.now }
-    ensures in_range { IfOk result IsInRange }
+    ensures in_range { IfOk result IsEventInRange }
 {
     if fields.is_empty() {
         return Err(FeedFault::Kind);

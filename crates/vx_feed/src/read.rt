@@ -5,7 +5,7 @@ ghost use Rattle.vx_feed.specs.declared.events.Event.{Event};
 ghost use Rattle.vx_feed.specs.Feed.{event_of_line, next_event};
 ghost use Rattle.vx_feed.specs.Noted.{StandsFor};
 ghost use Rattle.vx_feed.specs.Order.{IsLawfulNext};
-ghost use Rattle.vx_feed.specs.Ranges.{IsInRange};
+ghost use Rattle.vx_feed.specs.Ranges.{IsEventInRange};
 
 use crate::events::Event;
 use crate::faults::FeedFault;
@@ -21,7 +21,7 @@ use vx_fields::{FieldTable, Fields, LineBlock, why_unsplit};
 pub fn event_of_fields(fields: &Fields<'_>, seen: &Order) -> Result<Event, FeedFault>
     ensures value { (events : List Event) → StandsFor seen.now events → result ≡ next_event events fields.now }
     ensures lawful { (events : List Event) → StandsFor seen.now events → IfOk result (IsLawfulNext events) }
-    ensures in_range { IfOk result IsInRange }
+    ensures in_range { IfOk result IsEventInRange }
 {
     let read = read_form(fields);
     if let Ok(event) = &read {
@@ -35,9 +35,10 @@ pub fn event_of_fields(fields: &Fields<'_>, seen: &Order) -> Result<Event, FeedF
 /// The event of a line, given without its LF, after the events noted, or the first fault. An event that
 /// is answered is lawful next after the events noted. `NoMemory` has no cause in the line.
 pub fn read_event(alloc: Global, line: &[u8], seen: &Order) -> Result<Event, FeedFault>
-    ensures value { (events : List Event) → StandsFor seen.now events → (result ≡ Err FeedFault.NoMemory) ⊎ (result ≡ event_of_line events line.now) }
+    ensures value { (events : List Event) → StandsFor seen.now events
+        → (result ≡ Err FeedFault.NoMemory) ⊎ (result ≡ event_of_line events line.now) }
     ensures lawful { (events : List Event) → StandsFor seen.now events → IfOk result (IsLawfulNext events) }
-    ensures in_range { IfOk result IsInRange }
+    ensures in_range { IfOk result IsEventInRange }
 {
     if let Some(why) = why_unsplit(line) {
         return Err(FeedFault::from(why));

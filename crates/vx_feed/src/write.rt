@@ -12,7 +12,7 @@ ghost use Rattle.vx_feed.specs.declared.events.Event.{Event};
 ghost use Rattle.vx_feed.specs.Feed.{event_of_line};
 ghost use Rattle.vx_feed.specs.Form.{kind_text};
 ghost use Rattle.vx_feed.specs.Order.{IsLawfulNext};
-ghost use Rattle.vx_feed.specs.Ranges.{IsInRange};
+ghost use Rattle.vx_feed.specs.Ranges.{IsEventInRange};
 ghost use Rattle.vx_feed.specs.Written.{behind_commas, event_line, event_text, expiry_fields, kind_of_event, price_text, rate_text, value_fields};
 
 use crate::events::Event;
@@ -29,7 +29,7 @@ use vx_symbol::{Symbol, write_symbol};
 ///
 /// `NoMemory`, and then `out` is unchanged.
 pub fn write_event(alloc: Global, e: &Event, out: &mut Vec<u8>) -> Result<(), NoMemory>
-    requires { IsInRange e.now }
+    requires { IsEventInRange e.now }
     ensures written { OnOk result (out.new.items ≡ out.old.items ++ event_text e.now) }
     ensures refused { OnErr result (out.new.items ≡ out.old.items) }
     // wherever the event may come next, its line is read as the event
@@ -128,7 +128,7 @@ fn kind_name(e: &Event) -> &'static [u8]
 
 // The fields behind the kind.
 fn put_values(alloc: Global, line: &mut Vec<u8>, e: &Event) -> Result<(), NoMemory>
-    requires { IsInRange e.now }
+    requires { IsEventInRange e.now }
     ensures { OnOk result (line.new.items ≡ line.old.items ++ behind_commas (value_fields e.now)) }
 {
     match e {

@@ -30,8 +30,8 @@ in_range v low high = grind (arith, nat_tests)
 strike_back : (v : ℕ) → 100000 ≤ v → v ≤ 50000000 → strike_of (eight_digits v) ≡ Some v
 strike_back v low high = rw (are_digits-eight v, digits_value-eight v (omega arith), in_range v low high) refl
 
-date_back : (y m d : ℕ) (day : DayNo) → y < 100 → m < 100 → d < 100 → day_of_date (2000 + y) m d ≡ Ok day → date_of_digits (two_digits y ++ two_digits m ++ two_digits d) ≡ Some day
-date_back y m d day year month small is =
+digits_of_date_back : (y m d : ℕ) (day : DayNo) → y < 100 → m < 100 → d < 100 → day_of_date (2000 + y) m d ≡ Ok day → date_of_digits (two_digits y ++ two_digits m ++ two_digits d) ≡ Some day
+digits_of_date_back y m d day year month small is =
     rw (digit_below y 10, digit_below y 1, digit_below m 10, digit_below m 1, digit_below d 10, digit_below d 1)
     (rw (digits_value-two y year, digits_value-two m month, digits_value-two d small) (ap result_ok is))
 
@@ -48,5 +48,5 @@ unfolding symbol_text
 read_back_symbol s is =
     let bounds = date_bounds s.date is.date in
     let year : 2000 + (year_of s.date - 2000) ≡ year_of s.date = omega (arith, bounds.0) in
-    let date = date_back (year_of s.date - 2000) (month_of s.date) (day_in_month s.date) s.date (omega (arith, bounds.1)) (omega (arith, bounds.2)) (omega (arith, bounds.3)) (rw year (dated s.date is.date)) in
+    let date = digits_of_date_back (year_of s.date - 2000) (month_of s.date) (day_in_month s.date) s.date (omega (arith, bounds.1)) (omega (arith, bounds.2)) (omega (arith, bounds.3)) (rw year (dated s.date is.date)) in
     parts_back s (year_of s.date - 2000) (month_of s.date) (day_in_month s.date) date (side_back s.side) (strike_back s.strike is.strike.0 is.strike.1)

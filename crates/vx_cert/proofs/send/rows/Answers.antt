@@ -5,7 +5,7 @@ use Rattle.serde_json.specs.Events.{SendsItems}
 use Rattle.serde_json.specs.View.{items_of}
 use Rattle.vx_cert.specs.Form.{row_of}
 use Rattle.vx_cert.specs.Written.{row_data}
-use Rattle.vx_cert.proofs.Values.{mapped_len, sent_more, sent_all}
+use Rattle.vx_cert.proofs.Values.{mapped_len, sent_item, sent_all}
 use Rattle.vx_cert.proofs.WrittenBack.{back_in, back_all}
 use Rattle.vx_cert.proofs.WrittenData.{on_ok}
 use Rattle.vx_cert.proofs.send.rows.Goals as goal
@@ -13,7 +13,7 @@ use Rattle.vx_cert.proofs.send.rows.Goals as goal
 pub loop-item-preserved : goal.loop-item-preserved
 loop-item-preserved g c = record {
   sent =
-      sent_more row_data c.items-items.result.now c.args.rows.now c.loop-item.item-index _ (g.S.Serializer.written c.loop-item.out) (g.S.Serializer.written c.row.new.out)
+      sent_item row_data c.items-items.result.now c.args.rows.now c.loop-item.item-index _ (g.S.Serializer.written c.loop-item.out) (g.S.Serializer.written c.row.new.out)
       (λ end. SendsItems (items_of (map row_data c.args.rows.now)) (g.S.Serializer.written c.begin_seq.new.self) end) c.items-items.ensures c.loop-item-test.true c.in_ok-row.ensures.sent c.loop-item.invariant.sent;
   read_back =
       back_in row_of row_data c.items-items.result.now c.args.rows.now c.loop-item.item-index _ c.items-items.ensures c.loop-item-test.true

@@ -19,8 +19,8 @@ pairs text six =
     let last : drop 2 (drop 2 text) ≡ drop 4 text = drop-drop 2 2 text in
     sym whole ∙ first ∙ ap (λ rest. take 2 text ++ rest) (others ∙ ap (λ rest. take 2 (drop 2 text) ++ take 2 rest) last)
 
-all_digits : (text : List ℕ) → length text ≡ 6 → are_digits (take 2 text) ≡ true → are_digits (slice_range text 2 4) ≡ true → are_digits (slice_range text 4 6) ≡ true → are_digits text ≡ true
-all_digits text six first second third =
+digits_of_date : (text : List ℕ) → length text ≡ 6 → are_digits (take 2 text) ≡ true → are_digits (slice_range text 2 4) ≡ true → are_digits (slice_range text 4 6) ≡ true → are_digits text ≡ true
+digits_of_date text six first second third =
     ap are_digits (pairs text six) ∙ simp (list_all-append is_ascii_digit, first, second, third)
 
 -- three pairs of digits are those of a date
@@ -29,7 +29,7 @@ dated text y m d six year month day =
     let ys = number_of-Some (take 2 text) y year in
     let ms = number_of-Some (slice_range text 2 4) m month in
     let ds = number_of-Some (slice_range text 4 6) d day in
-    rw (all_digits text six ys.0 ms.0 ds.0) (rw (ys.1, ms.1, ds.1) refl)
+    rw (digits_of_date text six ys.0 ms.0 ds.0) (rw (ys.1, ms.1, ds.1) refl)
 
 pub returns-clause-value : goal.returns-clause-value
 returns-clause-value c =
