@@ -1,7 +1,7 @@
 -- What the worked days and certificates come to, computed.
-pub mod TermDayProofs
-pub mod FeedDayProofs
+pub mod TermExampleProofs
+pub mod FeedExampleProofs
 pub mod OrderExamples
-pub mod SampleTextProofs
-pub mod CertificateProofs
-pub mod CertificateLineProofs
+pub mod TextExampleProofs
+pub mod CertificateExampleProofs
+pub mod CertificateLineExampleProofs

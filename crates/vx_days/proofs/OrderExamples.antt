@@ -3,7 +3,7 @@ use Rattle.std.proofs.Common.{refl, arith}
 use lib.Signed.{le_z_yes}
 use Rattle.vx_clock.specs.Day.{IsDayInRange}
 use Rattle.vx_feed.specs.Order.{AreLawful}
-use Rattle.vx_days.specs.FeedDays.{september_17}
+use Rattle.vx_days.specs.FeedExamples.{september_17}
 use Rattle.vx_days.specs.OrderExamples.{ended, opened, HeaderAfterEnd, EarlyQuoteAfterEnd, OtherCountAfterEnd, EarlySecondOpening}
 
 day_17 : IsDayInRange september_17

@@ -1,7 +1,7 @@
 -- Worked days and certificates.
-pub mod TermDays
-pub mod FeedDays
+pub mod TermExamples
+pub mod FeedExamples
 pub mod OrderExamples
-pub mod SampleText
-pub mod Certificates
-pub mod CertificateLines
+pub mod TextExamples
+pub mod CertificateExamples
+pub mod CertificateLineExamples

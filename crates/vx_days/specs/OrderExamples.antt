@@ -5,7 +5,7 @@ use Rattle.vx_feed.specs.declared.events.Event.TheVariants as event
 use Rattle.vx_feed.specs.declared.faults.FeedFault.{FeedFault}
 use Rattle.vx_feed.specs.declared.faults.FeedFault.TheVariants as fault
 use Rattle.vx_feed.specs.Order.{is_misplaced, is_after_end, is_time_back, is_other_count, is_second_opening, order_fault, AreLawful}
-use Rattle.vx_days.specs.FeedDays.{september_17, call_at}
+use Rattle.vx_days.specs.FeedExamples.{september_17, call_at}
 
 -- both causes hold of an event after a lawful list, and this fault is answered
 pub record BothHold (before : List Event) (e : Event) (one other : List Event → Event → Bool) (f : FeedFault) : Type 0 where

@@ -1,9 +1,9 @@
 //! Worked certificates over the first sample feed. Each function does nothing: its clauses are the example.
 
-ghost use Rattle.vx_days.specs.CertificateLines.{LevelLineIsRead, SingleLineIsRead};
-ghost use Rattle.vx_days.specs.Certificates.{LevelIsAccepted, WrongLineFails, WrongPairFails, LowLevelFails};
-ghost use Rattle.vx_days.specs.Certificates.{FirstVersionIsAccepted, HighTaylorFails, OtherVersionFails, LowRowFails};
-ghost use Rattle.vx_days.specs.Certificates.{WideEndsFail, SecondVersionIsAccepted};
+ghost use Rattle.vx_days.specs.CertificateLineExamples.{LevelLineIsRead, SingleLineIsRead};
+ghost use Rattle.vx_days.specs.CertificateExamples.{LevelIsAccepted, WrongLineFails, WrongPairFails, LowLevelFails};
+ghost use Rattle.vx_days.specs.CertificateExamples.{FirstVersionIsAccepted, HighTaylorFails, OtherVersionFails, LowRowFails};
+ghost use Rattle.vx_days.specs.CertificateExamples.{WideEndsFail, SecondVersionIsAccepted};
 
 /// A certificate of kind `k0`, accepted; and with another line, pair or level the first test that it fails.
 pub fn level_certificates()

@@ -1,11 +1,11 @@
 //! Worked days. Each function does nothing: its clauses are the example.
 
-ghost use Rattle.vx_days.specs.TermDays.{DaysAreNumbered, NearOfSeptember23, NextOfSeptember23, NearOfSeptember24};
-ghost use Rattle.vx_days.specs.TermDays.{NextOfSeptember24, NoNearOfNone, NoNextOfNone};
-ghost use Rattle.vx_days.specs.SampleText.{SampleTextIsRead, SampleTextIsLawful};
-ghost use Rattle.vx_days.specs.FeedDays.{SampleIsLawful, SampleShowsRows, UncrossedStands, CrossedIsLawful};
-ghost use Rattle.vx_days.specs.FeedDays.{CrossedStandsNot, CrossedShowsNoCall, CrossedHasNoPair, CrossedPairIsBeside};
-ghost use Rattle.vx_days.specs.FeedDays.{CrossedForward, CrossedLevel, CrossedLacksMoney};
+ghost use Rattle.vx_days.specs.TermExamples.{DaysAreNumbered, NearOfSeptember23, NextOfSeptember23, NearOfSeptember24};
+ghost use Rattle.vx_days.specs.TermExamples.{NextOfSeptember24, NoNearOfNone, NoNextOfNone};
+ghost use Rattle.vx_days.specs.TextExamples.{SampleTextIsRead, SampleTextIsLawful};
+ghost use Rattle.vx_days.specs.FeedExamples.{SampleIsLawful, SampleShowsRows, UncrossedStands, CrossedIsLawful};
+ghost use Rattle.vx_days.specs.FeedExamples.{CrossedStandsNot, CrossedShowsNoCall, CrossedHasNoPair, CrossedPairIsBeside};
+ghost use Rattle.vx_days.specs.FeedExamples.{CrossedForward, CrossedLevel, CrossedLacksMoney};
 
 /// The two terms of the index on 2014-09-23 and on the day after.
 pub fn two_terms()

@@ -10,4 +10,4 @@ pub mod Figures
 pub mod Ticks
 pub mod Openings
 -- a day
-pub mod Day
+pub mod DayExampleProofs

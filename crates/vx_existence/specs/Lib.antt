@@ -1,4 +1,4 @@
 -- there is an answer
 pub mod Existence
 -- a day whose answer is written out
-pub mod Day
+pub mod DayExamples

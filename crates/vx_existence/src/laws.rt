@@ -1,6 +1,6 @@
 //! The laws. Each function does nothing.
 
-ghost use Rattle.vx_existence.specs.Day.{DayIsAccepted, DayIsAnswered, DayIsLawful};
+ghost use Rattle.vx_existence.specs.DayExamples.{DayIsAccepted, DayIsAnswered, DayIsLawful};
 ghost use Rattle.vx_existence.specs.Existence.{EndsAreDecided, EveryFigureHasAnswer, EveryTermHasAnswer, EveryTickHasAnswer, EveryTickHasLawfulAnswer, OpeningHasAnswer, SquareHasIndexEnds};
 
 /// Whatever is known of a term, there is an answer for it, at every scale.

@@ -1,4 +1,4 @@
-use Rattle.vx_days.proofs.CertificateProofs.{first_version_is_accepted, second_version_is_accepted, high_taylor_fails, other_version_fails, low_row_fails, wide_ends_fail}
+use Rattle.vx_days.proofs.CertificateExampleProofs.{first_version_is_accepted, second_version_is_accepted, high_taylor_fails, other_version_fails, low_row_fails, wide_ends_fail}
 use Rattle.vx_days.proofs.certificates.single_certificates.Goals as goal
 
 pub returns : goal.returns

@@ -1,5 +1,5 @@
 -- Each part of the law is a lemma of its own.
-use Rattle.vx_days.proofs.FeedDayProofs.{crossed_is_lawful, uncrossed_stands, crossed_stands_not, crossed_shows_no_call, crossed_has_no_pair, crossed_pair_is_beside, crossed_forward, crossed_level, crossed_lacks_money}
+use Rattle.vx_days.proofs.FeedExampleProofs.{crossed_is_lawful, uncrossed_stands, crossed_stands_not, crossed_shows_no_call, crossed_has_no_pair, crossed_pair_is_beside, crossed_forward, crossed_level, crossed_lacks_money}
 use Rattle.vx_days.proofs.days.crossed_quote.Goals as goal
 
 pub returns : goal.returns

@@ -1,5 +1,5 @@
 -- Each part of the law is a lemma of its own.
-use Rattle.vx_days.proofs.SampleTextProofs.{sample_text_is_read, sample_text_is_lawful}
+use Rattle.vx_days.proofs.TextExampleProofs.{sample_text_is_read, sample_text_is_lawful}
 use Rattle.vx_days.proofs.days.sample_text.Goals as goal
 
 pub returns : goal.returns

@@ -1,5 +1,5 @@
 -- Each part of the law is a lemma of its own.
-use Rattle.vx_days.proofs.TermDayProofs.{no_near_of_none, no_next_of_none}
+use Rattle.vx_days.proofs.TermExampleProofs.{no_near_of_none, no_next_of_none}
 use Rattle.vx_days.proofs.days.terms_of_none.Goals as goal
 
 pub returns : goal.returns

@@ -1,5 +1,5 @@
 -- Each part of the law is a lemma of its own.
-use Rattle.vx_days.proofs.TermDayProofs.{days_are_numbered, near_of_september_23, next_of_september_23, near_of_september_24, next_of_september_24}
+use Rattle.vx_days.proofs.TermExampleProofs.{days_are_numbered, near_of_september_23, next_of_september_23, near_of_september_24, next_of_september_24}
 use Rattle.vx_days.proofs.days.two_terms.Goals as goal
 
 pub returns : goal.returns

@@ -1,5 +1,5 @@
 -- Each clause of the law is a lemma of its own.
-use Rattle.vx_existence.proofs.Day.{day_is_lawful, day_is_answered, day_is_accepted}
+use Rattle.vx_existence.proofs.DayExampleProofs.{day_is_lawful, day_is_answered, day_is_accepted}
 use Rattle.vx_existence.proofs.laws.worked_day_is_answered.Goals as goal
 
 pub returns-clause-lawful : goal.returns-clause-lawful

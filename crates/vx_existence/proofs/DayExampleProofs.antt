@@ -23,7 +23,7 @@ use Rattle.vx_feed.specs.declared.events.Event.{Event}
 use Rattle.vx_feed.specs.declared.events.Event.TheVariants as event
 use Rattle.vx_feed.specs.declared.faults.FeedFault.{FeedFault}
 use Rattle.vx_feed.specs.Order.{order_fault, AreLawfulAfter}
-use Rattle.vx_feed.specs.Ranges.{IsPrice, IsInRange}
+use Rattle.vx_feed.specs.Ranges.{IsPrice, IsEventInRange}
 use Rattle.vx_feed.specs.Listed.{series_at, no_price}
 use Rattle.vx_formula.specs.Pair.{Pair, IsAsClose}
 use Rattle.vx_formula.specs.Term.{TermFacts, exponent}
@@ -47,9 +47,9 @@ use Rattle.vx_replay.specs.declared.answer.TickAnswer.{TickAnswer}
 use Rattle.vx_replay.specs.declared.answer.TickAnswer.TheVariants.{Published}
 use Rattle.vx_replay.specs.Ticks.{IsAnswerFor}
 use Rattle.vx_replay.proofs.LawfulTicks.{tick_answer_is_lawful}
-use Rattle.vx_days.specs.FeedDays.{september_17, standard, half_past_eight, quote_at}
-use Rattle.vx_days.specs.TermDays.{weekly_24}
-use Rattle.vx_existence.specs.Day.{series_of, quotes_of, two_terms, terms_of_one, ends_at, run_of, near_run, next_run, day_certificate, DayIsLawful, DayIsAnswered, DayIsAccepted}
+use Rattle.vx_days.specs.FeedExamples.{september_17, standard, half_past_eight, quote_at}
+use Rattle.vx_days.specs.TermExamples.{weekly_24}
+use Rattle.vx_existence.specs.DayExamples.{series_of, quotes_of, two_terms, terms_of_one, ends_at, run_of, near_run, next_run, day_certificate, DayIsLawful, DayIsAnswered, DayIsAccepted}
 use Rattle.vx_existence.proofs.Exponentials.{first_values, terms_of}
 use Rattle.vx_existence.proofs.Decisions.{not_straddled}
 
@@ -57,7 +57,7 @@ use Rattle.vx_existence.proofs.Decisions.{not_straddled}
 
 abbrev AreInRange : List Event → Type 0
 AreInRange [] = Unit {0}
-AreInRange (e ∷ events) = IsInRange e × AreInRange events
+AreInRange (e ∷ events) = IsEventInRange e × AreInRange events
 
 in_range_of_both : (first second : List Event) → AreInRange first → AreInRange second → AreInRange (first ++ second)
 in_range_of_both [] second h k = k
@@ -96,7 +96,7 @@ module _ (x : Expiry) (day : IsDayInRange x.date) where
   symbol : (side : Side) (strike : ℕ) → IsStrikeInRange strike → IsSymbolInRange (series_at x side strike)
   symbol side strike range = record { date = day; strike = range }
 
-  quote : (side : Side) (strike cents : ℕ) → IsStrikeInRange strike → IsPrice cents → IsInRange (quote_at (series_at x side strike) cents cents)
+  quote : (side : Side) (strike cents : ℕ) → IsStrikeInRange strike → IsPrice cents → IsEventInRange (quote_at (series_at x side strike) cents cents)
   quote side strike cents range price = (lit≤ tt, symbol side strike range, price, price)
 
   series_in_range : AreInRange (series_of x)

@@ -1,19 +1,23 @@
 -- The worked days of a feed, computed.
-use Rattle.std.proofs.Common.{◌≡◌, ℕ, ◌≤◌, ◌⊎◌, pos, [], ◌∷◌, refl, subst, inl, inr, arith}
+use Rattle.std.proofs.Common.{◌≡◌, ℕ, ◌≤◌, ◌⊎◌, pos, List, [], ◌∷◌, ◌++◌, refl, subst, inl, inr, arith}
 use Rattle.std.proofs.lemmas.List.Elements.{All-cons, All-nil}
 use lib.Signed.{le_z_yes, lt_z_yes}
 use Rattle.vx_num.specs.Fraction.{whole, ◌<ᶠ◌}
 use Rattle.vx_clock.specs.Day.{IsDayInRange}
 use Rattle.vx_symbol.specs.Symbol.{IsSymbolInRange}
+use Rattle.vx_feed.specs.declared.events.Event.{Event}
+use Rattle.vx_feed.specs.declared.events.Event.TheVariants as event
 use Rattle.vx_feed.specs.Listed.{listed_rows, no_price}
+use Rattle.vx_feed.specs.Order.{AreLawful, AreLawfulAfter}
 use Rattle.vx_formula.specs.Pair.{IsAsClose}
 use Rattle.vx_formula.specs.Forward.{forward_at}
 use Rattle.vx_formula.specs.Level.{strikes}
 use Rattle.vx_formula.specs.Examples.{at_cents, row_at, at_rate_zero}
 use Rattle.vx_formula.proofs.Lists.{In, in_from_contains}
-use Rattle.vx_days.specs.FeedDays.{september_17, standard, call_at, put_at, SampleIsLawful, SampleShowsRows, crossed_beside, pair_of_1900}
-use Rattle.vx_days.specs.FeedDays.{UncrossedStands, CrossedIsLawful, CrossedStandsNot, CrossedShowsNoCall, CrossedHasNoPair, CrossedPairIsBeside}
-use Rattle.vx_days.specs.FeedDays.{CrossedForward, CrossedLevel, CrossedLacksMoney}
+use Rattle.vx_days.specs.FeedExamples.{september_17, standard, call_at, put_at, half_past_eight, listing, quotes, SampleIsLawful, SampleShowsRows}
+use Rattle.vx_days.specs.FeedExamples.{crossed_call, crossed_beside, pair_of_1900}
+use Rattle.vx_days.specs.FeedExamples.{UncrossedStands, CrossedIsLawful, CrossedStandsNot, CrossedShowsNoCall, CrossedHasNoPair, CrossedPairIsBeside}
+use Rattle.vx_days.specs.FeedExamples.{CrossedForward, CrossedLevel, CrossedLacksMoney}
 
 day_17 : IsDayInRange september_17
 day_17 = (le_z_yes tt, le_z_yes tt)
@@ -27,9 +31,9 @@ call_in_range strike low high = record { date = day_of_expiry; strike = (low, hi
 put_in_range : (strike : ℕ) → 100000 ≤ strike → strike ≤ 50000000 → IsSymbolInRange (put_at strike)
 put_in_range strike low high = record { date = day_of_expiry; strike = (low, high) }
 
--- each event of the small feed may come after those before it
-pub sample_is_lawful : SampleIsLawful
-sample_is_lawful = (
+-- what may come behind the listing of the three strikes may come with it
+behind_listing : (rest : List Event) → AreLawfulAfter listing rest → AreLawful (listing ++ rest)
+behind_listing rest behind = (
   record { in_range = day_17; in_order = refl },
   (
     record { in_range = day_of_expiry; in_order = refl },
@@ -47,28 +51,32 @@ sample_is_lawful = (
                 record { in_range = call_in_range 2100000 (omega arith) (omega arith); in_order = refl },
                 (
                   record { in_range = put_in_range 2100000 (omega arith) (omega arith); in_order = refl },
-                  (
-                    record { in_range = (omega arith, put_in_range 1900000 (omega arith) (omega arith), omega arith, omega arith); in_order = refl },
-                    (
-                      record { in_range = (omega arith, call_in_range 2000000 (omega arith) (omega arith), omega arith, omega arith); in_order = refl },
-                      (
-                        record { in_range = (omega arith, put_in_range 2000000 (omega arith) (omega arith), omega arith, omega arith); in_order = refl },
-                        (
-                          record { in_range = (omega arith, call_in_range 2100000 (omega arith) (omega arith), omega arith, omega arith); in_order = refl },
-                          (
-                            record { in_range = omega arith; in_order = refl },
-                            (
-                              record { in_range = omega arith; in_order = refl },
-                              tt,
-                            ),
-                          ),
-                        ),
-                      ),
-                    ),
-                  ),
+                  behind,
                 ),
               ),
             ),
+          ),
+        ),
+      ),
+    ),
+  ),
+)
+
+-- each event of the small feed may come after those before it
+pub sample_is_lawful : SampleIsLawful
+sample_is_lawful = behind_listing (quotes ++ event.Tick half_past_eight ∷ event.End 13 ∷ []) (
+  record { in_range = (omega arith, put_in_range 1900000 (omega arith) (omega arith), omega arith, omega arith); in_order = refl },
+  (
+    record { in_range = (omega arith, call_in_range 2000000 (omega arith) (omega arith), omega arith, omega arith); in_order = refl },
+    (
+      record { in_range = (omega arith, put_in_range 2000000 (omega arith) (omega arith), omega arith, omega arith); in_order = refl },
+      (
+        record { in_range = (omega arith, call_in_range 2100000 (omega arith) (omega arith), omega arith, omega arith); in_order = refl },
+        (
+          record { in_range = omega arith; in_order = refl },
+          (
+            record { in_range = omega arith; in_order = refl },
+            tt,
           ),
         ),
       ),
@@ -82,40 +90,13 @@ sample_shows_rows = refl
 
 -- each event of the feed with a crossed quote may come after those before it
 pub crossed_is_lawful : CrossedIsLawful
-crossed_is_lawful = (
-  record { in_range = day_17; in_order = refl },
+crossed_is_lawful = behind_listing crossed_call (
+  record { in_range = (omega arith, call_in_range 2000000 (omega arith) (omega arith), omega arith, omega arith); in_order = refl },
   (
-    record { in_range = day_of_expiry; in_order = refl },
+    record { in_range = (omega arith, put_in_range 2000000 (omega arith) (omega arith), omega arith, omega arith); in_order = refl },
     (
-      record { in_range = (day_of_expiry, (le_z_yes tt, le_z_yes tt)); in_order = refl },
-      (
-        record { in_range = call_in_range 1900000 (omega arith) (omega arith); in_order = refl },
-        (
-          record { in_range = put_in_range 1900000 (omega arith) (omega arith); in_order = refl },
-          (
-            record { in_range = call_in_range 2000000 (omega arith) (omega arith); in_order = refl },
-            (
-              record { in_range = put_in_range 2000000 (omega arith) (omega arith); in_order = refl },
-              (
-                record { in_range = call_in_range 2100000 (omega arith) (omega arith); in_order = refl },
-                (
-                  record { in_range = put_in_range 2100000 (omega arith) (omega arith); in_order = refl },
-                  (
-                    record { in_range = (omega arith, call_in_range 2000000 (omega arith) (omega arith), omega arith, omega arith); in_order = refl },
-                    (
-                      record { in_range = (omega arith, put_in_range 2000000 (omega arith) (omega arith), omega arith, omega arith); in_order = refl },
-                      (
-                        record { in_range = (omega arith, call_in_range 2000000 (omega arith) (omega arith), omega arith, omega arith); in_order = refl },
-                        tt,
-                      ),
-                    ),
-                  ),
-                ),
-              ),
-            ),
-          ),
-        ),
-      ),
+      record { in_range = (omega arith, call_in_range 2000000 (omega arith) (omega arith), omega arith, omega arith); in_order = refl },
+      tt,
     ),
   ),
 )

@@ -18,9 +18,9 @@ use Rattle.vx_feed.specs.declared.limits.TheConstants.{LINE_LEN_MAX}
 use Rattle.vx_feed.specs.Form.{event_of_fields}
 use Rattle.vx_feed.specs.Feed.{event_unless, event_in_order, next_event, event_of_line, Reading, with_cause, reading_after, reading_from, reading_on}
 use Rattle.vx_feed.specs.Order.{order_fault}
-use Rattle.vx_days.specs.FeedDays.{september_17, standard, call_at, put_at, sample_feed}
-use Rattle.vx_days.specs.SampleText.{sample_lines, SampleTextIsRead, SampleTextIsLawful}
-use Rattle.vx_days.proofs.TermDayProofs.{in_2014}
+use Rattle.vx_days.specs.FeedExamples.{september_17, standard, call_at, put_at, sample_feed}
+use Rattle.vx_days.specs.TextExamples.{sample_lines, SampleTextIsRead, SampleTextIsLawful}
+use Rattle.vx_days.proofs.TermExampleProofs.{in_2014}
 
 day_of_trade : days_from_civil (pos 2014) 9 17 ≡ pos 16330
 unfolding days_of_months

@@ -13,8 +13,8 @@ use Rattle.vx_clock.specs.Day.{day_number}
 use Rattle.vx_clock.specs.Terms.{IsInNearWindow, IsInNextWindow, IsTakenBeforeAsNear, IsTakenBeforeAsNext}
 use Rattle.vx_clock.proofs.DayNumbers.{year_start}
 use Rattle.vx_formula.proofs.Lists.{in_from_contains, all_in}
-use Rattle.vx_days.specs.TermDays.{september_23, september_24, standard_17, weekly_24, weekly_31, three_expiries, DaysAreNumbered, NearOfSeptember23}
-use Rattle.vx_days.specs.TermDays.{NextOfSeptember23, NearOfSeptember24, NextOfSeptember24, NoNearOfNone, NoNextOfNone}
+use Rattle.vx_days.specs.TermExamples.{september_23, september_24, standard_17, weekly_24, weekly_31, three_expiries, DaysAreNumbered, NearOfSeptember23}
+use Rattle.vx_days.specs.TermExamples.{NextOfSeptember23, NearOfSeptember24, NextOfSeptember24, NoNearOfNone, NoNextOfNone}
 
 -- the number of a day of 2014 by its place in the year
 pub in_2014 : (m d place : ℕ) → day_of_year (pos 2014) m d ≡ place → 1 ≤ d → day_number 2014 m d ≡ pos (16070 + place)

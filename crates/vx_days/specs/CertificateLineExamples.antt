@@ -1,7 +1,7 @@
 -- The lines of two worked certificates, and that they are read as these.
 use Rattle.std.specs.Prelude.{ℕ, pos, List, ◌++◌, Ok, codes}
 use Rattle.vx_cert.specs.Reading.{ReadsAs}
-use Rattle.vx_days.specs.Certificates.{level_certificate, first_version}
+use Rattle.vx_days.specs.CertificateExamples.{level_certificate, first_version}
 
 -- as it stands in examples/certificate-a-k0.jsonl
 abbrev pub level_line : List ℕ

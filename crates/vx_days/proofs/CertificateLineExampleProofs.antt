@@ -12,9 +12,9 @@ use Rattle.vx_cert.specs.declared.certificate.CertTerm.{CertTerm}
 use Rattle.vx_cert.specs.declared.certificate.Certificate.{Certificate}
 use Rattle.vx_cert.specs.declared.fault.CertFault.{CertFault}
 use Rattle.vx_cert.specs.Reading.{certificate_of}
-use Rattle.vx_days.specs.Certificates.{level_certificate, first_term, first_square, first_version}
-use Rattle.vx_days.specs.CertificateLines.{level_line, single_line, LevelLineIsRead, SingleLineIsRead}
-use Rattle.vx_days.proofs.TermDayProofs.{in_2014}
+use Rattle.vx_days.specs.CertificateExamples.{level_certificate, first_term, first_square, first_version}
+use Rattle.vx_days.specs.CertificateLineExamples.{level_line, single_line, LevelLineIsRead, SingleLineIsRead}
+use Rattle.vx_days.proofs.TermExampleProofs.{in_2014}
 
 day_of_expiry : days_from_civil (pos 2014) 10 17 ≡ pos 16360
 unfolding days_of_months

@@ -27,10 +27,10 @@ use Rattle.vx_claims.specs.Exponential.{AreTaylorTerms, EncloseExponential}
 use Rattle.vx_claims.specs.TermTests.{IsLevelOfEnds, HasStrikeAbove, IsStatedStrip, EnclosesContribution, EnclosesTotal, TermMeets}
 use Rattle.vx_claims.specs.FigureTests.{EnclosesSingleSquare, EnclosesIndex}
 use Rattle.vx_claims.specs.Accepts.{scale_of, zero_rate_forward, TermMeetsAt, SingleMeets, Meets}
-use Rattle.vx_days.specs.FeedDays.{september_17, standard, half_past_eight, sample_feed}
-use Rattle.vx_days.specs.Certificates.{stated_ends, priced_row, taylor_from, first_rows, first_term, first_square, second_rows, second_term}
-use Rattle.vx_days.specs.Certificates.{second_square, level_certificate, LevelIsAccepted, WrongLineFails, WrongPairFails, LowLevelFails}
-use Rattle.vx_days.specs.Certificates.{FirstVersionIsAccepted, HighTaylorFails, OtherVersionFails, LowRowFails, WideEndsFail, SecondVersionIsAccepted}
+use Rattle.vx_days.specs.FeedExamples.{september_17, standard, half_past_eight, sample_feed}
+use Rattle.vx_days.specs.CertificateExamples.{stated_ends, priced_row, taylor_from, first_rows, first_term, first_square, second_rows, second_term}
+use Rattle.vx_days.specs.CertificateExamples.{second_square, level_certificate, LevelIsAccepted, WrongLineFails, WrongPairFails, LowLevelFails}
+use Rattle.vx_days.specs.CertificateExamples.{FirstVersionIsAccepted, HighTaylorFails, OtherVersionFails, LowRowFails, WideEndsFail, SecondVersionIsAccepted}
 
 -- ---- what the feed shows at the tick
 

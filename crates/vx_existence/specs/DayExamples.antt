@@ -17,8 +17,8 @@ use Rattle.vx_term.specs.declared.answer.TermRun.{TermRun}
 use Rattle.vx_replay.specs.declared.answer.TickAnswer.TheVariants.{Published}
 use Rattle.vx_replay.specs.Figures.{certificate_of_runs}
 use Rattle.vx_replay.specs.Ticks.{IsIndexAnswer}
-use Rattle.vx_days.specs.FeedDays.{september_17, standard, half_past_eight, quote_at}
-use Rattle.vx_days.specs.TermDays.{weekly_24}
+use Rattle.vx_days.specs.FeedExamples.{september_17, standard, half_past_eight, quote_at}
+use Rattle.vx_days.specs.TermExamples.{weekly_24}
 
 -- ---- the feed, of 27 lines
 

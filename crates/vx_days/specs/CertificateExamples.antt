@@ -10,7 +10,7 @@ use Rattle.vx_formula.specs.declared.limits.TheConstants.{THIRTY_DAYS}
 use Rattle.vx_claims.specs.declared.acceptance.Test.{Test}
 use Rattle.vx_claims.specs.declared.acceptance.Test.TheVariants.{Place, TaylorTerms, ClosestPair, Level, Contributions, IndexEnds}
 use Rattle.vx_claims.specs.Accepts.{Meets, Accepts, FirstFailing}
-use Rattle.vx_days.specs.FeedDays.{standard, half_past_eight, sample_feed}
+use Rattle.vx_days.specs.FeedExamples.{standard, half_past_eight, sample_feed}
 
 -- over the feed this certificate fails this test, and none before it
 abbrev pub FailsFirst : Certificate → Test → Type 0

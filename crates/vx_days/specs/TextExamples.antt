@@ -2,7 +2,7 @@
 use Rattle.std.specs.Prelude.{◌≡◌, ℕ, List, [], ◌∷◌, None, codes}
 use Rattle.vx_lines.specs.TextLines.{text_of}
 use Rattle.vx_feed.specs.Feed.{reading_of, IsLawfulFeed}
-use Rattle.vx_days.specs.FeedDays.{sample_feed}
+use Rattle.vx_days.specs.FeedExamples.{sample_feed}
 
 -- its lines, as they stand in examples/feed-a.txt
 abbrev pub sample_lines : List (List ℕ)
