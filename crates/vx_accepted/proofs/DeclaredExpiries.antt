@@ -6,14 +6,14 @@ use Rattle.vx_clock.specs.declared.terms.Expiry.{Expiry}
 use Rattle.vx_feed.specs.declared.events.Event.{Event}
 use Rattle.vx_feed.specs.declared.events.Event.TheVariants as event
 use Rattle.vx_feed.specs.Listed.{declared_expiry, declared_expiries}
-use Rattle.vx_feed.specs.Ranges.{IsInRange}
+use Rattle.vx_feed.specs.Ranges.{IsEventInRange}
 use Rattle.vx_formula.proofs.Lists.{In, in_from_contains}
 use Rattle.vx_cert.specs.Ranges.{IsExpiryInRange}
 use Rattle.vx_claims.proofs.InRange.{lawful_in_range}
 use Rattle.vx_accepted.specs.Facts.{DeclaredExpiriesAreInRange}
 
 -- what an event in range declares is in range
-declared_in_range : (e : Event) (x : Expiry) → IsInRange e → declared_expiry e ≡ Some x → IsExpiryInRange x
+declared_in_range : (e : Event) (x : Expiry) → IsEventInRange e → declared_expiry e ≡ Some x → IsExpiryInRange x
 declared_in_range (event.Expiry y) x range is = subst IsExpiryInRange (same_Some y x is) (record { first = range.0; last = range.1 })
 declared_in_range (event.Header day) x range is = cc
 declared_in_range (event.Rate y rate) x range is = cc

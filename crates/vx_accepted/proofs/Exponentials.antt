@@ -1,9 +1,8 @@
 -- The terms and the ends of a run's exponential pass the tests of a certificate's.
-use Rattle.std.proofs.Common.{◌≡◌, ◌∙◌, sym, ap, subst, refl, ℕ, zero, suc, ◌+◌, ◌*◌, ◌^◌, ◌<◌, ◌≤◌, ℤ, pos, negsuc, ◌*ℤ◌, ◌≤ℤ◌, ◌<ℤ◌, List, [], ◌∷◌, take, nat_abs, arith}
+use Rattle.std.proofs.Common.{◌≡◌, ◌∙◌, sym, ap, subst, ℕ, zero, suc, ◌+◌, ◌*◌, ◌^◌, ◌<◌, ◌≤◌, ℤ, pos, negsuc, ◌*ℤ◌, ◌≤ℤ◌, ◌<ℤ◌, List, [], ◌∷◌, take, nat_abs, arith}
 use Rattle.std.specs.List.{sum, slice_index}
 use Rattle.std.proofs.lemmas.Int.{ints}
 use Rattle.std.proofs.lemmas.Nat.{pow-add}
-use Rattle.std.proofs.lemmas.List.Sums.{sum_by-cons}
 use Rattle.vx_interval.specs.Ends.{Ends, IsScale, unit}
 use Rattle.vx_bounds.specs.Exponential.{low_term, high_term, low_sum_to, high_sum_to, low_end, high_end, IsTerms, exp_ends, signed_ends}
 use Rattle.vx_bounds.proofs.TermLemmas.{low_step, high_step}
@@ -12,19 +11,10 @@ use Rattle.vx_bounds.proofs.Steps.{low_sum_next, high_sum_next, low_sum_first, h
 use Rattle.vx_bounds.proofs.Signed.{signed_is_good}
 use Rattle.vx_bounds.proofs.Values.{unit_facts, negative_ends}
 use Rattle.vx_claims.specs.Exponential.{AreTaylorTerms, EncloseExponential, low_sum as stated_low_sum, high_sum as stated_high_sum}
+use Rattle.vx_soundness.proofs.ExponentialLemmas.{sum-take}
 use Rattle.vx_certify.specs.Certified.{certified_ends}
 
 -- ---- sums of the front of a list
-
-sum-take : (xs : List ℕ) (n : ℕ) → sum (take (suc n) xs) ≡ sum (take n xs) + slice_index xs n
-sum-take [] zero = refl
-sum-take [] (suc n) = refl
-sum-take (x ∷ xs) zero = sum_by-cons (λ y. y) x [] ∙ omega arith
-sum-take (x ∷ xs) (suc n) =
-    let left = sum_by-cons (λ y. y) x (take (suc n) xs) in
-    let right = sum_by-cons (λ y. y) x (take n xs) in
-    let before = sum-take xs n in
-    omega (arith, left, right, before)
 
 -- the first terms of a list add to what the same terms add to
 front_is : (term sums : ℕ → ℕ) (xs : List ℕ) → IsTerms term xs → sums 0 ≡ term 0 → ((k : ℕ) → sums (k + 1) ≡ sums k + term (k + 1)) → (n : ℕ) → n < 14 → sum (take (suc n) xs) ≡ sums n

@@ -10,7 +10,7 @@ use Rattle.vx_lines.specs.Cut.{HasNoLf, IsLine}
 use Rattle.vx_lines.specs.TextLines.{Ending, TextLines, ended, line_feed, line_then, lines_then, text_of}
 use Rattle.vx_lines.proofs.LineLemmas.{lines_then-append}
 use Rattle.vx_desk.specs.declared.device.Slot.{Slot}
-use Rattle.vx_desk.specs.Slots.{IsReading}
+use Rattle.vx_desk.specs.Slots.{IsReadingSlot}
 use Rattle.vx_desk.specs.Told.{Told}
 use Rattle.vx_desk.specs.declared.lines.Line.{Line}
 use Rattle.vx_desk.specs.Lines.{AnswersNext, ReaderState, holds_line, to_come}
@@ -36,16 +36,16 @@ use Rattle.vx_blocks.proofs.ComingLemmas.{none_ready}
 
 -- ---- which lines can be split
 
-none_by : (is_empty are_plain : Bool) → (not is_empty && are_plain) ≡ true → (if is_empty then Some Empty else (if are_plain then None else Some Byte)) ≡ None
-none_by true are_plain plain = cc
-none_by false true plain = refl
-none_by false false plain = cc
+unsplit_none_by : (is_empty are_plain : Bool) → (not is_empty && are_plain) ≡ true → (if is_empty then Some Empty else (if are_plain then None else Some Byte)) ≡ None
+unsplit_none_by true are_plain plain = cc
+unsplit_none_by false true plain = refl
+unsplit_none_by false false plain = cc
 
 -- plain lines can be split
 pub plain_can_be : (lines : List (List ℕ)) → list_all is_plain_line lines ≡ true → CanBeSplit lines
 plain_can_be [] plain = All-nil (λ line. why_unsplit line ≡ None)
 plain_can_be (line ∷ lines) plain =
-    All-cons (λ l. why_unsplit l ≡ None) line lines (none_by (length line == 0) (list_all is_plain line) (both_left _ _ plain)) (plain_can_be lines (both_right _ _ plain))
+    All-cons (λ l. why_unsplit l ≡ None) line lines (unsplit_none_by (length line == 0) (list_all is_plain line) (both_left _ _ plain)) (plain_can_be lines (both_right _ _ plain))
 
 -- ---- lines behind a block
 
@@ -217,7 +217,7 @@ pub text_read : (old new : SplitLines) (text : List ℕ) (count : ℕ) (told : S
     → new.lines ≡ passed old.lines (length text) count → new.rest ≡ old.rest → new.block ≡ old.block ++ lines_in text → StepsBlock old told new told
 text_read old new text count told is more takes lines rest block = record {
   reading = record {
-    reads = subst (λ (r : ReaderState). IsReading r.slot) (sym lines) is.reads;
+    reads = subst (λ (r : ReaderState). IsReadingSlot r.slot) (sym lines) is.reads;
     may_read = λ m. ap (λ (r : ReaderState). r.is_ended) lines ∙ is.may_read more;
     rest = subst (λ (r : Rest). IsRestAfter new.lines.last_bytes r) (sym (rest ∙ more)) tt;
     block = subst (λ (ls : List (List ℕ)). CanBeSplit ls) (sym block) (All-append (λ line. why_unsplit line ≡ None) old.block (lines_in text) is.block (plain_can_be (lines_in text) takes.plain));
@@ -302,7 +302,7 @@ pub ahead_split : (block ahead : SplitLines) → IsReadingLines block → ahead.
     → ahead.table ≡ map fields_of_line block.block → AreAhead ahead
 ahead_split block ahead is lines rest same first table = record {
   reading = record {
-    reads = subst (λ (reader : ReaderState). IsReading reader.slot) (sym lines) is.reads;
+    reads = subst (λ (reader : ReaderState). IsReadingSlot reader.slot) (sym lines) is.reads;
     may_read = λ more. ap (λ (reader : ReaderState). reader.is_ended) lines ∙ is.may_read (sym rest ∙ more);
     rest = subst (λ (reader : ReaderState). IsRestAfter reader.last_bytes ahead.rest) (sym lines) (subst (λ (r : Rest). IsRestAfter block.lines.last_bytes r) (sym rest) is.rest);
     block = subst (λ (ls : List (List ℕ)). CanBeSplit ls) (sym same) is.block;

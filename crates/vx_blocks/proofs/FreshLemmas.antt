@@ -6,7 +6,7 @@ use Rattle.std.proofs.lemmas.List.{drop_all}
 use Rattle.std.proofs.lemmas.List.Elements.{All-nil}
 use Rattle.vx_lines.specs.TextLines.{TextLines, lines_of, lines_then, text_of}
 use Rattle.vx_desk.specs.declared.device.Slot.{Slot}
-use Rattle.vx_desk.specs.Slots.{IsReading}
+use Rattle.vx_desk.specs.Slots.{IsReadingSlot}
 use Rattle.vx_desk.specs.Told.{Told}
 use Rattle.vx_desk.specs.Lines.{ReaderState, to_come}
 use Rattle.vx_desk.specs.Coming.{coming}
@@ -51,10 +51,10 @@ fresh_coming slot limit ahead told fresh =
     same (Some text) = refl
 
 -- they may be read
-pub fresh_ahead : (slot : Slot) (limit : ℕ) (ahead : SplitLines) → IsReading slot → IsFresh slot limit ahead → AreAhead ahead
+pub fresh_ahead : (slot : Slot) (limit : ℕ) (ahead : SplitLines) → IsReadingSlot slot → IsFresh slot limit ahead → AreAhead ahead
 fresh_ahead slot limit ahead reads fresh = record {
   reading = record {
-    reads = subst (λ (reader : ReaderState). IsReading reader.slot) (sym fresh.lines) reads;
+    reads = subst (λ (reader : ReaderState). IsReadingSlot reader.slot) (sym fresh.lines) reads;
     may_read = λ more. ap (λ (reader : ReaderState). reader.is_ended) fresh.lines;
     rest = subst (λ (r : Rest). IsRestAfter ahead.lines.last_bytes r) (sym fresh.rest) tt;
     block = subst (λ (ls : List (List ℕ)). CanBeSplit ls) (sym fresh.block) (All-nil (λ line. why_unsplit line ≡ None));

@@ -11,7 +11,7 @@ use Rattle.vx_desk.specs.Coming.{coming}
 use Rattle.vx_fields.specs.Lines.{fields_of_line, why_unsplit}
 use Rattle.vx_blocks.specs.declared.split_lines.SplitLines.{SplitLines}
 use Rattle.vx_blocks.specs.SplitLines.{AreAhead, behind}
-use Rattle.vx_blocks.specs.Given.{TakesLine, still_to_come}
+use Rattle.vx_blocks.specs.Given.{TakesNextLine, still_to_come}
 
 -- the elements from one of them on
 drop_at : {X : Type 0} (xs : List X) (i : ℕ) (x : X) → slice_get xs i ≡ Some x → drop i xs ≡ x ∷ drop (i + 1) xs
@@ -19,7 +19,7 @@ drop_at xs i x is = drop_more xs i x (slice_get_within xs i x is) ∙ ap (λ y. 
 
 -- where the next line of the block is this, and its fields were split
 taken_one : (fields : List (List ℕ)) (line : List ℕ) (lines : List (List ℕ)) (old : SplitLines) → AreAhead old → drop old.taken old.block ≡ line ∷ lines
-    → fields ∷ drop (old.taken + 1) old.table ≡ fields_of_line line ∷ map fields_of_line lines → TakesLine fields old (record old { taken = old.taken + 1 })
+    → fields ∷ drop (old.taken + 1) old.table ≡ fields_of_line line ∷ map fields_of_line lines → TakesNextLine fields old (record old { taken = old.taken + 1 })
 taken_one fields line lines old is ready split =
     let next : drop (old.taken + 1) old.block ≡ lines = sym (drop-drop 1 old.taken old.block) ∙ ap (drop 1) ready in
     let fields_are : fields ≡ fields_of_line line = cc in
@@ -50,13 +50,13 @@ taken_one fields line lines old is ready split =
     one_then l ls f (Some t) = refl
 
 -- the next line is taken
-pub takes_next : (fields : List (List ℕ)) (old : SplitLines) → AreAhead old → slice_get old.table old.taken ≡ Some fields → TakesLine fields old (record old { taken = old.taken + 1 })
+pub takes_next : (fields : List (List ℕ)) (old : SplitLines) → AreAhead old → slice_get old.table old.taken ≡ Some fields → TakesNextLine fields old (record old { taken = old.taken + 1 })
 takes_next fields old is at = by (drop old.taken old.block) refl
   where
     first : drop old.taken old.table ≡ fields ∷ drop (old.taken + 1) old.table
     first = drop_at old.table old.taken fields at
 
-    by : (ready : List (List ℕ)) → drop old.taken old.block ≡ ready → TakesLine fields old (record old { taken = old.taken + 1 })
+    by : (ready : List (List ℕ)) → drop old.taken old.block ≡ ready → TakesNextLine fields old (record old { taken = old.taken + 1 })
     by [] ready = absurd (let eq : fields ∷ drop (old.taken + 1) old.table ≡ [] = sym first ∙ is.split ∙ ap (map fields_of_line) ready in let no : ⊥ = cc in no)
     by (line ∷ lines) ready = taken_one fields line lines old is ready (sym first ∙ is.split ∙ ap (map fields_of_line) ready)
 

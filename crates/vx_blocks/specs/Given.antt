@@ -81,7 +81,7 @@ KeepsGiven old before new after result =
     → OnOkOrFault result (HasGiven given held new after)
 
 -- the next line is taken, which was split into these fields: it was the first of those to come, and it is given
-pub record TakesLine (fields : List (List ℕ)) (old new : SplitLines) : Type 0 where
+pub record TakesNextLine (fields : List (List ℕ)) (old new : SplitLines) : Type 0 where
   pub line : List ℕ
   pub is_split : IsSplit line fields
   pub ahead : AreAhead new

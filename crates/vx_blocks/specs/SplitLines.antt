@@ -3,7 +3,7 @@ use Rattle.std.specs.Prelude.{◌≡◌, ℕ, ◌<◌, Bool, true, false, not, �
 use Rattle.std.specs.Option.{option_map}
 use Rattle.vx_lines.specs.TextLines.{TextLines, at_end, ended, line_then, lines_then, no_eol, too_long}
 use Rattle.vx_desk.specs.declared.device.Slot.{Slot}
-use Rattle.vx_desk.specs.Slots.{IsReading}
+use Rattle.vx_desk.specs.Slots.{IsReadingSlot}
 use Rattle.vx_desk.specs.Told.{Told}
 use Rattle.vx_desk.specs.Lines.{holds_line, new_reader}
 use Rattle.vx_desk.specs.Coming.{coming}
@@ -28,7 +28,7 @@ IsRestAfter last _ = Unit {0}
 
 -- the lines of a slot are read, and may be read on where more can come
 pub record IsReadingLines (ahead : SplitLines) : Type 0 where
-  pub reads : IsReading ahead.lines.slot
+  pub reads : IsReadingSlot ahead.lines.slot
   pub may_read : ahead.rest ≡ More → ahead.lines.is_ended ≡ false
   pub rest : IsRestAfter ahead.lines.last_bytes ahead.rest
   pub block : CanBeSplit ahead.block

@@ -8,8 +8,9 @@ use vx_desk::{Desk, Line, LineReader, ReadFault, Slot};
 use vx_fields::{FieldTable, Fields, LineBlock, Unsplit, plain_lines, why_unsplit};
 use vx_num::NoMemory;
 
-/// The most bytes of lines that are split together: about what a processor keeps at hand.
-const BLOCK_LEN: usize = 65_536;
+/// The most bytes of lines that are split together. A reader of short lines holds fewer, about what a processor keeps
+/// at hand, so that all that it holds is split at once and no few lines are left for a block of their own.
+const BLOCK_LEN: usize = 131_072;
 
 /// What comes behind the lines that were split.
 #[derive(Clone, Copy, Debug, PartialEq, Eq)]
@@ -52,17 +53,17 @@ impl SplitLines {
     ghost use Rattle.vx_desk.specs.Lines.{holds_line};
     ghost use Rattle.vx_fields.specs.Lines.{fields_of_line};
     ghost use Rattle.vx_desk.specs.declared.reader.TheConstants.{LONGEST_LINE};
-    ghost use Rattle.vx_desk.specs.Slots.{IsReading};
+    ghost use Rattle.vx_desk.specs.Slots.{IsReadingSlot};
     ghost use Rattle.vx_desk.specs.Told.{ChangesOnly, Told};
     ghost use Rattle.vx_desk.specs.Calls.{IsStep};
     ghost use Rattle.vx_blocks.specs.Stops.{IsNoFault, OnFault, OnOkOrFault, failed_in};
     ghost use Rattle.vx_blocks.specs.SplitLines.{AreAhead, HasNext, IsFresh, IsReadingLines, IsSameText, has_line, is_in_hand, lines_coming};
-    ghost use Rattle.vx_blocks.specs.Given.{KeepsGiven, LosesNothing, TakesLine};
+    ghost use Rattle.vx_blocks.specs.Given.{KeepsGiven, LosesNothing, TakesNextLine};
     ghost use Rattle.vx_blocks.specs.Steps.{AddsLast, IsFaulted, KeepsTable, StepsBlock};
 
     /// The lines of a slot of which nothing was read. Each may have at most `limit` bytes, without its LF.
     pub fn new(alloc: Global, slot: Slot, limit: usize) -> Result<SplitLines, NoMemory>
-        requires slot { IsReading slot }
+        requires slot { IsReadingSlot slot }
         requires limit { (1 ≤ limit) × (limit ≤ LONGEST_LINE) }
         ensures { IfOk result (IsFresh slot limit) }
     {
@@ -251,7 +252,7 @@ impl SplitLines {
         ensures taken { self.new ≡ record self.old { taken = self.old.taken + 1 } }
         ensures ahead { AreAhead self.new }
         ensures takes { (fields : List (List ℕ)) → slice_get self.old.table self.old.taken ≡ Some fields
-            → TakesLine fields self.old self.new }
+            → TakesNextLine fields self.old self.new }
     {
         let _count = self.table.len();
         self.taken += 1;

@@ -147,16 +147,16 @@ quote_none : (q said : Option BidAsk) → quote_after false q said ≡ q
 quote_none q None = refl
 quote_none q (Some quote) = refl
 
-trade_none : (opened : Bool) (first said : Option ℕ) → trade_after opened false first said ≡ first
-trade_none true first said = refl
-trade_none false first said = refl
+trade_of_unlisted : (opened : Bool) (first said : Option ℕ) → trade_after opened false first said ≡ first
+trade_of_unlisted true first said = refl
+trade_of_unlisted false first said = refl
 
 pub unlisted_left : (s : Symbol) (events : List Event) (e : Event) → ListsNone e → is_listed s events ≡ false → LeavesSeries s events e
 unlisted_left s events e lists none = record {
   unlisted = lists s;
   other = lists (other_side s);
   trade = next_trade s events e ∙ ap (λ b. trade_after (list_any is_opening events) b (opening_trade s events) (trade_of s e)) none
-      ∙ trade_none (list_any is_opening events) (opening_trade s events) (trade_of s e);
+      ∙ trade_of_unlisted (list_any is_opening events) (opening_trade s events) (trade_of s e);
   price = λ alone. ap quoted_price (next_quote s events e ∙ ap (λ b. quote_after b (standing_quote s events) (quote_of s e)) none ∙ quote_none (standing_quote s events) (quote_of s e));
 }
 

@@ -28,14 +28,14 @@ map_itself f same (r ∷ rows) = ap (λ x. x ∷ map f rows) (same r) ∙ ap (λ
 abbrev row_at : ℕ → Price → Price → StrikeRow
 row_at k put call = record { strike = k; put = put; call = call }
 
-row_same : (x : Expiry) (e : Event) → ((side : Side) (k : ℕ) → quote_of (series_at x side k) e ≡ None) → (row : StrikeRow) → row_after x e row ≡ row
-row_same x e none row =
+row_stays : (x : Expiry) (e : Event) → ((side : Side) (k : ℕ) → quote_of (series_at x side k) e ≡ None) → (row : StrikeRow) → row_after x e row ≡ row
+row_stays x e none row =
     ap (λ o. row_at row.strike (price_after o row.put) (price_after (quote_of (series_at x Call row.strike) e) row.call)) (none Put row.strike)
     ∙ ap (λ o. row_at row.strike row.put (price_after o row.call)) (none Call row.strike)
 
 pub rows_same : (x : Expiry) (events : List Event) (e : Event) → is_listing e ≡ false → ((side : Side) (k : ℕ) → quote_of (series_at x side k) e ≡ None)
     → listed_rows x (events ++ e ∷ []) ≡ listed_rows x events
-rows_same x events e lists none = next_rows x events e lists ∙ map_itself (row_after x e) (row_same x e none) (listed_rows x events)
+rows_same x events e lists none = next_rows x events e lists ∙ map_itself (row_after x e) (row_stays x e none) (listed_rows x events)
 
 -- what a quote of a series changes of the row at a strike
 priced : (side : Side) (b : Bool) (row : StrikeRow) (q : BidAsk)

@@ -4,7 +4,6 @@ use Rattle.std.proofs.lemmas.Int.{ints}
 use Rattle.std.proofs.lemmas.Bool.{cases_lt}
 use Rattle.std.specs.Prelude.{FitsSigned, ◌^◌}
 use mir.Syntax.{w128}
-use Rattle.vx_interval.specs.Ends.{unit}
 use Rattle.vx_interval.proofs.Widths.{within}
 use Rattle.vx_interval.proofs.Ranges.{cast, fits_within}
 use Rattle.vx_num.specs.SignedSquare.{signed_square}

@@ -6,7 +6,6 @@ use Rattle.std.proofs.lemmas.Option.{slice_get_within, same_Some}
 use Rattle.vx_clock.specs.declared.days.DayNo.{DayNo}
 use Rattle.vx_clock.specs.declared.terms.Expiry.{Expiry}
 use Rattle.vx_clock.specs.Terms.{IsNearTerm, IsNextTerm}
-use Rattle.vx_symbol.specs.declared.rows.StrikeRow.{StrikeRow}
 use Rattle.vx_feed.specs.declared.events.Event.{Event}
 use Rattle.vx_feed.specs.declared.events.Event.TheVariants as event
 use Rattle.vx_feed.specs.Same.{is_same_expiry}
@@ -23,7 +22,7 @@ use Rattle.vx_claims.specs.Accepts.{scale_of, TermMeetsAt}
 use Rattle.vx_claims.proofs.RisingRows.{listed_rows_rise}
 use Rattle.vx_check.specs.declared.book.PlainBook.{PlainBook}
 use Rattle.vx_check.specs.Kept.{is_kept, kept_rate, kept_rows}
-use Rattle.vx_check.specs.StandsFor.{StandsFor, last_event, tick_minute}
+use Rattle.vx_check.specs.StandsFor.{last_event, tick_minute}
 use Rattle.vx_check.specs.Reached.{IsReached, IsAtTick}
 use Rattle.vx_check.proofs.Pushes.{last_event-push}
 use Rattle.std.proofs.lemmas.List.{append-nil}

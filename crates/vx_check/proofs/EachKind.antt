@@ -1,5 +1,5 @@
 -- The tests of one term are the same for each kind that has them, and the tests before one give the feed line's tick.
-use Rattle.std.proofs.Common.{◌≡◌, ◌↔◌, ℕ, ◌<◌, ◌≤◌, Bool, IsTrue, List, refl, sym, subst, arith}
+use Rattle.std.proofs.Common.{◌≡◌, ◌↔◌, ℕ, ◌<◌, Bool, IsTrue, List, refl, sym, subst, arith}
 use Rattle.vx_clock.specs.declared.terms.Expiry.{Expiry}
 use Rattle.vx_feed.specs.declared.events.Event.{Event}
 use Rattle.vx_cert.specs.declared.certificate.CertTerm.{CertTerm}

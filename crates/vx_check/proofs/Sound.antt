@@ -8,7 +8,7 @@ use Rattle.vx_cert.specs.declared.certificate.CertBody.TheVariants.{K0, Single, 
 use Rattle.vx_cert.specs.declared.certificate.Certificate.{Certificate}
 use Rattle.vx_claims.specs.declared.acceptance.Test.{Test}
 use Rattle.vx_claims.specs.declared.acceptance.Test.TheVariants.{Place}
-use Rattle.vx_claims.specs.Accepts.{AcceptsFor, Meets, BodyMeets, IsVersion}
+use Rattle.vx_claims.specs.Accepts.{AcceptsFor, BodyMeets, IsVersion}
 use Rattle.vx_claims.specs.Means.{Means, MeansFor}
 use Rattle.vx_soundness.proofs.Meaning.{accepted_means}
 use Rattle.vx_check.specs.declared.verdict.Verdict.{Verdict}

@@ -1,12 +1,11 @@
 -- The first failing test, found by trying the tests in the order of their numbers.
-use Rattle.std.proofs.Common.{◌≡◌, ℕ, ◌+◌, ◌<◌, ◌≤◌, sym, subst, inl, inr, refl, arith}
+use Rattle.std.proofs.Common.{◌≡◌, ℕ, ◌+◌, ◌<◌, ◌≤◌, sym, subst, inl, inr, arith}
 use Rattle.std.proofs.lemmas.Bool.{cases_lt}
 use Rattle.vx_claims.specs.declared.acceptance.Test.{Test}
 use Rattle.vx_claims.specs.declared.acceptance.Test.TheVariants.{Place, Terms, Minutes, Rate, TaylorTerms, Exponential, ClosestPair, Forward, Level}
 use Rattle.vx_claims.specs.declared.acceptance.Test.TheVariants.{Excess, Strip, Contributions, Total, Variance, Square, IndexEnds}
 use Rattle.vx_claims.specs.Test.{test_number}
-use Rattle.vx_tests.proofs.Numbered.{same_test}
-use Rattle.vx_check.specs.declared.verdict.Verdict.{Verdict}
+use Rattle.vx_claims.proofs.TestNumbers.{same_test}
 use Rattle.vx_check.specs.declared.verdict.Verdict.TheVariants.{Yes, No}
 use Rattle.vx_check.specs.Answers.{IsVerdict, IsVerdictFrom}
 

@@ -1,5 +1,5 @@
 -- The first failing test is one, and the ends of an accepted figure are decided.
-use Rattle.std.proofs.Common.{◌≡◌, ℕ, ◌+◌, ◌*◌, cond, eqb, ℤ, pos, ◌-ℤ◌, ◌≤ℤ◌, ◌<ℤ◌, List, refl, sym, ◌∙◌, ap, inl, inr, arith}
+use Rattle.std.proofs.Common.{◌≡◌, ℕ, ◌+◌, ◌*◌, ℤ, pos, ◌-ℤ◌, ◌≤ℤ◌, ◌<ℤ◌, List, ◌∙◌, inl, inr, arith}
 use Rattle.std.proofs.lemmas.Int.{ints}
 use Rattle.std.proofs.lemmas.Bool.{cases_order}
 use Rattle.vx_feed.specs.declared.events.Event.{Event}
@@ -8,34 +8,10 @@ use Rattle.vx_cert.specs.declared.certificate.Certificate.{Certificate}
 use Rattle.vx_formula.specs.declared.limits.TheConstants.{CENT, HALF_CENT}
 use Rattle.vx_formula.specs.Undecided.{Straddles}
 use Rattle.vx_claims.specs.declared.acceptance.Test.{Test}
-use Rattle.vx_claims.specs.declared.acceptance.Test.TheVariants.{Place, Terms, Minutes, Rate, TaylorTerms, Exponential, ClosestPair, Forward, Level, Excess, Strip, Contributions, Total, Variance, Square, IndexEnds}
 use Rattle.vx_claims.specs.Test.{test_number}
 use Rattle.vx_claims.specs.FigureTests.{EnclosesIndex}
 use Rattle.vx_claims.specs.Accepts.{Meets, Accepts, FirstFailing}
-
-abbrev test_at : ℕ → Test
-test_at n =
-    cond (eqb n 1) Place (cond (eqb n 2) Terms (cond (eqb n 3) Minutes (cond (eqb n 4) Rate (cond (eqb n 5) TaylorTerms (cond (eqb n 6) Exponential
-    (cond (eqb n 7) ClosestPair (cond (eqb n 8) Forward (cond (eqb n 9) Level (cond (eqb n 10) Excess (cond (eqb n 11) Strip (cond (eqb n 12) Contributions
-    (cond (eqb n 13) Total (cond (eqb n 14) Variance (cond (eqb n 15) Square IndexEnds))))))))))))))
-
-test_at-number : (t : Test) → test_at (test_number t) ≡ t
-test_at-number Place = refl
-test_at-number Terms = refl
-test_at-number Minutes = refl
-test_at-number Rate = refl
-test_at-number TaylorTerms = refl
-test_at-number Exponential = refl
-test_at-number ClosestPair = refl
-test_at-number Forward = refl
-test_at-number Level = refl
-test_at-number Excess = refl
-test_at-number Strip = refl
-test_at-number Contributions = refl
-test_at-number Total = refl
-test_at-number Variance = refl
-test_at-number Square = refl
-test_at-number IndexEnds = refl
+use Rattle.vx_claims.proofs.TestNumbers.{same_test}
 
 -- the number of the first test that fails is one
 failing_number_is_one : (Holds : Test → Type 0) (s t : Test) → FirstFailing Holds s → FirstFailing Holds t → test_number s ≡ test_number t
@@ -47,7 +23,7 @@ failing_number_is_one Holds s t h l =
 
 -- of a certificate at most one test is the first that fails
 pub failing_test_is_one : (events : List Event) (c : Certificate) (s t : Test) → FirstFailing (Meets events c) s → FirstFailing (Meets events c) t → s ≡ t
-failing_test_is_one events c s t h l = sym (test_at-number s) ∙ ap test_at (failing_number_is_one (Meets events c) s t h l) ∙ test_at-number t
+failing_test_is_one events c s t h l = same_test s t (failing_number_is_one (Meets events c) s t h l)
 
 -- of an accepted certificate no test fails
 pub accepted_has_no_failing_test : (events : List Event) (c : Certificate) (test : Test) → Accepts events c → FirstFailing (Meets events c) test → ⊥

@@ -9,7 +9,7 @@ use Rattle.vx_symbol.specs.Rows.{IsRateInRange}
 use Rattle.vx_feed.specs.declared.events.Event.{Event}
 use Rattle.vx_feed.specs.declared.events.Event.TheVariants as event
 use Rattle.vx_feed.specs.Same.{is_same_expiry}
-use Rattle.vx_feed.specs.Ranges.{IsInRange}
+use Rattle.vx_feed.specs.Ranges.{IsEventInRange}
 use Rattle.vx_feed.specs.Said.{last_said}
 use Rattle.vx_feed.specs.Standing.{is_opening, before_opening, lists_series, since_listed, rate_of, standing_rate}
 use Rattle.vx_feed.specs.Listed.{expiry_of, with_strike, listed_strike, strikes_of}
@@ -21,12 +21,12 @@ use Rattle.vx_claims.proofs.RisingRows.{in_insert}
 
 -- each of the events is in range
 abbrev pub AllInRange : List Event → Type 0
-AllInRange events = (e : Event) → In events e → IsInRange e
+AllInRange events = (e : Event) → In events e → IsEventInRange e
 
 -- events that are lawful behind others are in range
 in_range_after : (before events : List Event) → AreLawfulAfter before events → AllInRange events
 in_range_after before [] h e none = elim none [ ]
-in_range_after before (d ∷ events) h e (inl same) = subst IsInRange same (h.0).in_range
+in_range_after before (d ∷ events) h e (inl same) = subst IsEventInRange same (h.0).in_range
 in_range_after before (d ∷ events) h e (inr later) = in_range_after (before ++ d ∷ []) events h.1 e later
 
 -- lawful events are in range
@@ -81,7 +81,7 @@ chosen true a r h = cc
 chosen false a r h = absurd cc
 
 -- a strike that an event in range lists is in range
-listed_in_range : (x : Expiry) (e : Event) (k : ℕ) → IsInRange e → listed_strike x e ≡ Some k → IsStrikeInRange k
+listed_in_range : (x : Expiry) (e : Event) (k : ℕ) → IsEventInRange e → listed_strike x e ≡ Some k → IsStrikeInRange k
 listed_in_range x (event.Series s) k range h = subst IsStrikeInRange (chosen (is_same_expiry x (expiry_of s)) s.strike k h) range.strike
 listed_in_range x (event.Header day) k range h = absurd cc
 listed_in_range x (event.Expiry y) k range h = absurd cc
@@ -123,7 +123,7 @@ last_in says (e ∷ events) r h =
     ]
 
 -- a rate that an event in range says is in range
-said_rate : (x : Expiry) (e : Event) (r : ℤ) → IsInRange e → rate_of x e ≡ Some r → IsRateInRange r
+said_rate : (x : Expiry) (e : Event) (r : ℤ) → IsEventInRange e → rate_of x e ≡ Some r → IsRateInRange r
 said_rate x (event.Rate y rate) r range h = subst IsRateInRange (chosen (is_same_expiry x y) rate r h) range.1
 said_rate x (event.Header day) r range h = absurd cc
 said_rate x (event.Expiry y) r range h = absurd cc

@@ -5,6 +5,7 @@ pub mod InRange
 -- where the opening stands
 pub mod OpeningPlaces
 -- tests and levels
+pub mod TestNumbers
 pub mod FailingLemmas
 pub mod LevelLemmas
 -- what a tick comes to

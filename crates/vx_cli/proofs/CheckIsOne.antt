@@ -7,7 +7,7 @@ use Rattle.vx_drivers.proofs.OneRun.{run_is_one}
 use Rattle.vx_cli.specs.Accepted.{JustChecks}
 use Rattle.vx_cli.specs.CheckRuns.{Checks, check_rules}
 use Rattle.vx_cli.specs.CheckLaws.{certificate_judges_one, line_reads_one}
-use Rattle.vx_cli.specs.ExitText.{Text}
+use Rattle.vx_drivers.specs.Sending.{Text}
 use Rattle.vx_cli.specs.Laws.{CheckIsOne}
 
 pub check_is_one : CheckIsOne

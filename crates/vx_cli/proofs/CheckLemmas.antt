@@ -13,7 +13,6 @@ use Rattle.vx_drivers.specs.CertificateExits.{IsCertificateExit}
 use Rattle.vx_drivers.specs.CertificateRun.{certificates_of}
 use Rattle.vx_drivers.specs.Exits.{IsWithoutNoMemory, is_cut}
 use Rattle.vx_drivers.specs.Held.{Held, held_by}
-use Rattle.vx_drivers.specs.PositionRun.{positions_of}
 use Rattle.vx_drivers.specs.Sending.{Sent, Text}
 use Rattle.vx_drivers.proofs.ExitLemmas.{certs_not_feed, feed_not_side, out_not_feed, out_not_side, side_not_feed}
 use Rattle.vx_drivers.proofs.RunLemmas.{both_none}

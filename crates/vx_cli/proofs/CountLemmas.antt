@@ -9,7 +9,7 @@ use Rattle.vx_reading.specs.declared.stop.FeedStop.{FeedStop}
 use Rattle.vx_reading.specs.declared.stop.FeedStop.TheVariants.{BadLine, Device, NoMemory}
 use Rattle.vx_desk.specs.Calls.{IsStep}
 use Rattle.vx_reading.specs.FeedReading.{IsAt, ReadsAll, Says, all_good, feed_told}
-use Rattle.vx_reading.specs.Stops.{bad_cause, stop_calls}
+use Rattle.vx_reading.specs.Stops.{bad_cause, feed_stop_calls}
 use Rattle.vx_cli.specs.declared.drill.AnswerCounts.{AnswerCounts}
 use Rattle.vx_cli.specs.declared.drill.CountedReplay.{CountedReplay}
 use Rattle.vx_cli.specs.DrillRuns.{CountsText, HasCounted, HasCountedAlong}
@@ -23,7 +23,7 @@ Stands taker events = HasCountedAlong taker.replay taker.counts events
 -- where it is not read on, a line of it is bad or memory is wanting
 pub text_stopped : (held : Option (List ℕ)) (feed : FeedReader CountedReplay) (text left : List ℕ) (stop : FeedStop)
     → ReadsAll Stands held (feed_told (told_text text)) feed (told_text left) (Err stop)
-    → IsStep (stop_calls stop) (told_text text) (told_text left) → CountsText text (Err stop)
+    → IsStep (feed_stop_calls stop) (told_text text) (told_text left) → CountsText text (Err stop)
 text_stopped held feed text left (BadLine line why) (cause, events, at, says) step =
     ap (λ (said : Reading). said.bad) says ∙ ap (λ (n : ℕ). Some (record { line = n; cause = bad_cause why })) (sym at)
 text_stopped held feed text left Device reads step = never_fails text left step

@@ -144,9 +144,9 @@ pub record CountsMore (old new : AnswerCounts) (answer : Option TickAnswer) : Ty
   pub undecided : new.undecided ≡ old.undecided + one_of is_undecided answer
   pub refused : new.refused ≡ old.refused + one_of is_refused answer
 
-one_more : (is_kind : TickAnswer → Bool) (answers : List Answered) (a : Answered)
+one_more_of_kind : (is_kind : TickAnswer → Bool) (answers : List Answered) (a : Answered)
     → count_answers is_kind (answers ++ a ∷ []) ≡ count_answers is_kind answers + cond (is_kind a.answer) 1 0
-one_more is_kind answers a = sum_by_push (λ (b : Answered). cond (is_kind b.answer) 1 0) answers a
+one_more_of_kind is_kind answers a = sum_by_push (λ (b : Answered). cond (is_kind b.answer) 1 0) answers a
 
 -- one line more is counted
 counts_either : (events : List Event) (e : Event) (answer : Option TickAnswer) (old new : AnswerCounts) → IsEither events e answer
@@ -172,11 +172,11 @@ counts_either events e answer old new (inl (time, a, tick, is, next)) more h =
       answers = h.answers ++ said ∷ [];
       are_answers = subst (λ (x : Event). AnswerTicks INDEX_DAYS INDEX_WINDOW (events ++ x ∷ []) (h.answers ++ said ∷ [])) (sym tick) (tick_line events time a h.answers next h.are_answers);
       published = more.published ∙ ap (λ (n : ℕ). n + one_of is_published answer) h.published
-          ∙ ap (λ (n : ℕ). count_answers is_published h.answers + n) (one is_published) ∙ sym (one_more is_published h.answers said);
+          ∙ ap (λ (n : ℕ). count_answers is_published h.answers + n) (one is_published) ∙ sym (one_more_of_kind is_published h.answers said);
       undecided = more.undecided ∙ ap (λ (n : ℕ). n + one_of is_undecided answer) h.undecided
-          ∙ ap (λ (n : ℕ). count_answers is_undecided h.answers + n) (one is_undecided) ∙ sym (one_more is_undecided h.answers said);
+          ∙ ap (λ (n : ℕ). count_answers is_undecided h.answers + n) (one is_undecided) ∙ sym (one_more_of_kind is_undecided h.answers said);
       refused = more.refused ∙ ap (λ (n : ℕ). n + one_of is_refused answer) h.refused
-          ∙ ap (λ (n : ℕ). count_answers is_refused h.answers + n) (one is_refused) ∙ sym (one_more is_refused h.answers said);
+          ∙ ap (λ (n : ℕ). count_answers is_refused h.answers + n) (one is_refused) ∙ sym (one_more_of_kind is_refused h.answers said);
     }
 
 -- a line that is taken up is counted
@@ -241,8 +241,8 @@ counted_few events counts h =
     omega (arith, all, ticks, few, lines)
 
 -- there is room for one line more
-pub room_for_line : (events : List Event) (e : Event) (counts : AnswerCounts) → IsLawfulNext events e → HasCounted events counts → counts.lines < LINES_MAX
-room_for_line events e counts next h =
+pub room_for_counted_line : (events : List Event) (e : Event) (counts : AnswerCounts) → IsLawfulNext events e → HasCounted events counts → counts.lines < LINES_MAX
+room_for_counted_line events e counts next h =
     let few : length events < LINES_MAX =
     leb-false LINES_MAX (length events)
     (or_parts (has_too_many_expiries events e || has_too_many_strikes events e) (nat_le LINES_MAX (length events)) (no_causes events e next.in_order).few).1 in

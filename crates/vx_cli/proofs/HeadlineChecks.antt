@@ -14,7 +14,7 @@ use Rattle.vx_drivers.specs.Answers.{Answer, said_yes, said_no, answers_text, en
 use Rattle.vx_drivers.specs.CertificateRun.{Answers, AnswersCertificate, AnswersSaid, CutsRun, EndsWithRest, Runs, RunsIf, Stand, StandsBefore, last_line, start}
 use Rattle.vx_drivers.specs.Exits.{is_cut}
 use Rattle.vx_drivers.specs.Sending.{Text}
-use Rattle.vx_cli.specs.CheckRuns.{IsVerdict, ReadsOrSays, check_rules}
+use Rattle.vx_cli.specs.CheckRuns.{IsAnswerTo, ReadsOrSays, check_rules}
 use Rattle.vx_cli.specs.Headline.{AreOfLines, ChecksTruly, IsTrueAnswer}
 use Rattle.vx_cli.proofs.HeadlineLines.{cut_not_done, last_either, of_more_lines}
 
@@ -26,7 +26,7 @@ module _ (feed : Reading) where
   AddsOne old line new = (a : Answer) × (new.answers ≡ old.answers ++ a ∷ []) × IsTrueAnswer feed line a
 
   verdict_true : (line : Text) (c : Certificate) (a : Answer) → ReadsAs line (Ok c) → is_met c.line feed ≡ false
-      → IsVerdict (take c.line feed.events) c a → IsTrueAnswer feed line a
+      → IsAnswerTo (take c.line feed.events) c a → IsTrueAnswer feed line a
   verdict_true line c (said_yes words) reads good (accepts, means, is) =
       record { certificate = c; is_read = reads; none_bad = good; accepted = accepts; means = means; words_are = is }
   verdict_true line c (said_no word) reads good (test, first, is) = inr (inr (test, is))

@@ -8,7 +8,7 @@ use Rattle.vx_drivers.specs.declared.exit.Exit.{Exit}
 use Rattle.vx_drivers.specs.declared.exit.Exit.TheVariants.{Done, SaidNo, Usage, BadFeed, OpenFault, ReadFault, WriteFault, NoMemory, BadPositions, BadCerts}
 use Rattle.vx_drivers.specs.Along.{Along}
 use Rattle.vx_drivers.specs.Exits.{is_cut}
-use Rattle.vx_drivers.specs.PositionRun.{EndsPositions, GivesOpeningPart, GivesPositionParts, RunsPositionsIf, RunsUnlessBad, SettledBefore, Settles, SettlesOpening, if_done, items_from, settled_text}
+use Rattle.vx_drivers.specs.PositionRun.{EndsPositions, GivesOpeningPart, GivesPositionParts, RunsPositionsIf, RunsUnlessBad, SettledBefore, ComesToOneMore, SettlesOpening, if_done, items_from, settled_text}
 use Rattle.vx_drivers.specs.Sending.{Text}
 use Rattle.vx_cli.specs.Headline.{AreOfLines, SettlesNothing, SettlesTruly, opened_text}
 use Rattle.vx_cli.specs.SettleRuns.{AnsweredOpening, IsAnsweredOpening, LineComesTo, settle_rules}
@@ -29,7 +29,7 @@ module _ (a : AnsweredOpening) where
     are_true : AreOfLines Comes lines added
     as_many : length added ≡ length lines
 
-  adds_more : (line : Text) (lines : List Text) (old next new : List (Option Settled)) → Settles settle_rules a old line next
+  adds_more : (line : Text) (lines : List Text) (old next new : List (Option Settled)) → ComesToOneMore settle_rules a old line next
       → AddsAll lines next new → AddsAll (line ∷ lines) old new
   adds_more line lines old next new (item, comes, is) more =
       let n = more.as_many in
@@ -40,7 +40,7 @@ module _ (a : AnsweredOpening) where
         as_many = omega (arith, n);
       }
 
-  lines_true : (lines : List Text) (old new : List (Option Settled)) → Along (Settles settle_rules a) old lines new → AddsAll lines old new
+  lines_true : (lines : List Text) (old new : List (Option Settled)) → Along (ComesToOneMore settle_rules a) old lines new → AddsAll lines old new
   lines_true [] old new h = record { added = []; new_is = h ∙ sym (append-nil old); are_true = tt; as_many = refl }
   lines_true (line ∷ lines) old new (next, step, h) = adds_more line lines old next new step (lines_true lines next new h)
 

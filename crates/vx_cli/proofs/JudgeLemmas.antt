@@ -10,9 +10,10 @@ use Rattle.vx_claims.specs.Means.{Means}
 use Rattle.vx_check.specs.declared.verdict.Verdict.{Verdict}
 use Rattle.vx_check.specs.declared.verdict.Verdict.TheVariants.{Yes, No}
 use Rattle.vx_check.specs.Answers.{IsAnswerOver}
-use Rattle.vx_drivers.specs.Answers.{Answer, said_yes, said_no}
-use Rattle.vx_cli.specs.ExitText.{Text, field_word}
-use Rattle.vx_cli.specs.CheckRuns.{IsVerdict, ReadsOrSays, test_word, yes_words}
+use Rattle.vx_drivers.specs.Answers.{said_yes, said_no}
+use Rattle.vx_drivers.specs.Sending.{Text}
+use Rattle.vx_cli.specs.ExitText.{field_word}
+use Rattle.vx_cli.specs.CheckRuns.{IsAnswerTo, ReadsOrSays, test_word, yes_words}
 use Rattle.vx_cli.proofs.VersionLemmas.{read_has_version}
 
 version_of : (c : Certificate) (line : List ℕ) → ReadsOrSays line (Ok c) → IsVersion c.v
@@ -24,7 +25,7 @@ appended words old text empty is = is ∙ ap (λ (o : Text). o ++ text) empty
 -- a yes is the answer of a certificate that was read, which has a version; so it means what it states
 pub said_yes_is : (events : List Event) (c : Certificate) (words old : Text) (verdict : Verdict) (line : List ℕ) → ReadsOrSays line (Ok c)
     → IsAnswerOver events c verdict → (IsVersion c.v → verdict ≡ Yes → Means events c) → verdict ≡ Yes → old ≡ [] → words ≡ old ++ yes_words c
-    → IsVerdict events c (said_yes words)
+    → IsAnswerTo events c (said_yes words)
 said_yes_is events c words old verdict line reads answer sound is_yes empty is =
     let met : IsAnswerOver events c Yes = subst (IsAnswerOver events c) is_yes answer in
     let version : IsVersion c.v = version_of c line reads in
@@ -32,7 +33,7 @@ said_yes_is events c words old verdict line reads answer sound is_yes empty is =
 
 -- and so is a no with the word of the first test that fails
 pub said_no_is : (events : List Event) (c : Certificate) (words old : Text) (verdict : Verdict) (n : ℕ)
-    → IsAnswerOver events c verdict → verdict ≡ No n → old ≡ [] → words ≡ old ++ test_word n → IsVerdict events c (said_no words)
+    → IsAnswerOver events c verdict → verdict ≡ No n → old ≡ [] → words ≡ old ++ test_word n → IsAnswerTo events c (said_no words)
 said_no_is events c words old verdict n answer is_no empty is =
     let failing : IsAnswerOver events c (No n) = subst (IsAnswerOver events c) is_no answer in
     (failing.0, failing.2, appended words old (test_word n) empty is ∙ ap test_word failing.1)

@@ -195,22 +195,22 @@ make_ends (BadCerts line cause) none is = absurd is
 
 -- ---- every command
 
-ends_by : (command : Command) (holds : List ℕ → Option (List ℕ)) (before after : Slot → Told) (exit : Exit) → exit_calls exit ≡ None
+exit_ends_by : (command : Command) (holds : List ℕ → Option (List ℕ)) (before after : Slot → Told) (exit : Exit) → exit_calls exit ≡ None
     → IsExitOf exit command → SendsFor (Some command) holds before after exit → EndsLawfully command holds exit
-ends_by (replay feed certs) holds before after exit none is sends = λ lawful. replay_ends (holds feed) before after lawful exit none is sends
-ends_by (check feed certs) holds before after exit none is sends = λ lawful there.
+exit_ends_by (replay feed certs) holds before after exit none is sends = λ lawful. replay_ends (holds feed) before after lawful exit none is sends
+exit_ends_by (check feed certs) holds before after exit none is sends = λ lawful there.
     check_ends (holds feed) (holds certs) before after lawful there exit none is sends
-ends_by (settle feed positions certs) holds before after exit none is sends = λ lawful are_lawful.
+exit_ends_by (settle feed positions certs) holds before after exit none is sends = λ lawful are_lawful.
     settle_ends (holds feed) (holds positions) before after lawful are_lawful exit none is sends
-ends_by (make number ticks) holds before after exit none is sends = make_ends exit none is
-ends_by (drill number ticks) holds before after exit none is sends = make_ends exit none is
+exit_ends_by (make number ticks) holds before after exit none is sends = make_ends exit none is
+exit_ends_by (drill number ticks) holds before after exit none is sends = make_ends exit none is
 
 -- a run over lawful input with no failed call ends lawfully
 pub ends_lawfully : (command : Command) (holds : List ℕ → Option (List ℕ)) (before after : Slot → Told) (exit : Exit)
     → Failures (exit_calls exit) before after → IsExitOf exit command → SendsFor (Some command) holds before after exit
     → CountsNoFailure before after → EndsLawfully command holds exit
 ends_lawfully command holds before after exit failed is sends none =
-    ends_by command holds before after exit (no_calls (exit_calls exit) before after none failed) is sends
+    exit_ends_by command holds before after exit (no_calls (exit_calls exit) before after none failed) is sends
 
 -- ---- the words that ask for a command
 

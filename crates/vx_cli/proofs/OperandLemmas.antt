@@ -7,8 +7,9 @@ use Rattle.clap.specs.declared.error.Error.{Error}
 use Rattle.clap.specs.declared.error.kind.ErrorKind.{ErrorKind}
 use Rattle.clap.specs.declared.error.kind.ErrorKind.TheVariants.{OutOfMemory}
 use Rattle.clap.proofs.OnLiterals.{clap_on_literals}
+use Rattle.vx_drivers.specs.Sending.{Text}
 use Rattle.vx_cli.specs.Operands.{all_three, three_operand_app, two_operand_app}
-use Rattle.vx_cli.specs.Words.{Text, is_plain_word, three_of, two_of}
+use Rattle.vx_cli.specs.Words.{is_plain_word, three_of, two_of}
 
 not-true : (b : Bool) → not b ≡ true → b ≡ false
 not-true true h = cc

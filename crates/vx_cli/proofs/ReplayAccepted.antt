@@ -33,8 +33,8 @@ use Rattle.vx_replay.specs.declared.answer.TickAnswer.{TickAnswer}
 use Rattle.vx_replay.specs.declared.answer.TickAnswer.TheVariants.{Published, UndecidedCents, UndecidedForward, Refused}
 use Rattle.vx_replay.specs.Lawful.{IsLawfulAnswer}
 use Rattle.vx_cli.specs.Accepted.{ReplayIsAccepted, all_yes_text, yes_to, yes_to_each}
-use Rattle.vx_cli.specs.CheckRuns.{IsVerdict, check_rules, stated_text, yes_words}
-use Rattle.vx_cli.specs.ExitText.{Text}
+use Rattle.vx_cli.specs.CheckRuns.{IsAnswerTo, check_rules, stated_text, yes_words}
+use Rattle.vx_drivers.specs.Sending.{Text}
 use Rattle.vx_cli.specs.OutputLines.{cents_text}
 use Rattle.vx_cli.specs.ReadBack.{CertificateIsRead, IsReadFromLine}
 use Rattle.vx_cli.specs.ReplayRuns.{GivesWritten, replay_rules, tally_of_answer}
@@ -81,8 +81,8 @@ text_is (a ∷ answers) = text_with a.answer (certificates_text replay_rules ans
 abbrev published_one : TickAnswer → ℕ
 published_one answer = (tally_of_answer answer).published
 
-count_more : (a : Answered) (answers : List Answered) → published_count replay_rules (a ∷ answers) ≡ published_one a.answer + published_count replay_rules answers
-count_more a answers = sum_by-cons (λ (b : Answered). published_one b.answer) a answers
+published_more : (a : Answered) (answers : List Answered) → published_count replay_rules (a ∷ answers) ≡ published_one a.answer + published_count replay_rules answers
+published_more a answers = sum_by-cons (λ (b : Answered). published_one b.answer) a answers
 
 lines_with : (answer : TickAnswer) (lines : List (List ℕ)) → length (line_to answer ++ lines) ≡ published_one answer + length lines
 lines_with (Published cents lo hi c) lines = omega arith
@@ -94,7 +94,7 @@ lines_with (Refused reason which) lines = omega arith
 lines_count : (answers : List Answered) → length (line_to_each answers) ≡ published_count replay_rules answers
 lines_count [] = refl
 lines_count (a ∷ answers) =
-    lines_with a.answer (line_to_each answers) ∙ ap (λ n. published_one a.answer + n) (lines_count answers) ∙ sym (count_more a answers)
+    lines_with a.answer (line_to_each answers) ∙ ap (λ n. published_one a.answer + n) (lines_count answers) ∙ sym (published_more a answers)
 
 -- some answers are all yes, and so many
 record AreYes (answers : List Answer) (n : ℕ) : Type 0 where
@@ -115,7 +115,7 @@ yes_with time (Refused reason which) answers n h = none_more answers n h
 are_yes : (answers : List Answered) → AreYes (yes_to_each answers) (published_count replay_rules answers)
 are_yes [] = record { many = refl; agreed = refl; refused = refl }
 are_yes (a ∷ answers) =
-    subst (AreYes (yes_to_each (a ∷ answers))) (sym (count_more a answers))
+    subst (AreYes (yes_to_each (a ∷ answers))) (sym (published_more a answers))
     (yes_with a.tick.time a.answer (yes_to_each answers) (published_count replay_rules answers) (are_yes answers))
 
 end_of_yes : (answers : List Answer) (n : ℕ) → AreYes answers n → end_line n n 0 ≡ end_text answers
@@ -144,17 +144,17 @@ words_are events line time cents lo hi c h =
     ∙ ap (λ t. clock_text time ++ codes "," ++ t) (states_text c.body INDEX_DAYS cents lo hi h.states))
 
 published_verdict : (events : List Event) (line time cents : ℕ) (lo hi : ℤ) (c : Certificate) → Publishes events line time cents lo hi c
-    → IsVerdict events c (said_yes (figure_words time cents))
+    → IsAnswerTo events c (said_yes (figure_words time cents))
 published_verdict events line time cents lo hi c h =
     (h.accepted, published_means events line time cents lo hi c h, words_are events line time cents lo hi c h)
 
 -- ---- the run over the certificates
 
--- one step more
-along_more : {A S : Type 0} (Step : S → A → S → Type 0) (first : S) (xs : List A) (x : A) (between last : S) → Along Step first xs between
+-- a step more along a list
+step_more : {A S : Type 0} (Step : S → A → S → Type 0) (first : S) (xs : List A) (x : A) (between last : S) → Along Step first xs between
     → Step between x last → Along Step first (xs ++ x ∷ []) last
-along_more Step first [] x between last h step = (last, subst (λ s. Step s x last) h step, refl)
-along_more Step first (y ∷ xs) x between last (next, h, more) step = (next, h, along_more Step next xs x between last more step)
+step_more Step first [] x between last h step = (last, subst (λ s. Step s x last) h step, refl)
+step_more Step first (y ∷ xs) x between last (next, h, more) step = (next, h, step_more Step next xs x between last more step)
 
 -- a feed without a bad line meets none
 pub not_met : (number : ℕ) (feed : Reading) → feed.bad ≡ None → is_met number feed ≡ false
@@ -190,8 +190,8 @@ module _ (feed : Reading) (none : feed.bad ≡ None) (before : List Event) (e : 
       let stand : Stand = record { answers = answers; reached = old.reached } in
       let words = figure_words time cents in
       let events_are : take c.line feed.events ≡ upto = ap (λ (n : ℕ). take n feed.events) named ∙ ap (λ (es : List Event). take (length upto) es) follows ∙ take-append_seam upto rest in
-      let verdict : IsVerdict (take c.line feed.events) c (said_yes words) =
-      subst (λ (es : List Event). IsVerdict es c (said_yes words)) (sym events_are) (published_verdict upto line time cents lo hi c h) in
+      let verdict : IsAnswerTo (take c.line feed.events) c (said_yes words) =
+      subst (λ (es : List Event). IsAnswerTo es c (said_yes words)) (sym events_are) (published_verdict upto line time cents lo hi c h) in
       let new : Stand = record { answers = answers ++ said_yes words ∷ []; reached = c.line } in
       let answered_so : AnswersCertificate check_rules feed stand c false new = (not_met c.line feed none, said_yes words, verdict, refl) in
       let step : Answers check_rules feed stand (certificate_line c) new =
@@ -201,7 +201,7 @@ module _ (feed : Reading) (none : feed.bad ≡ None) (before : List Event) (e : 
         within = omega (arith, named);
         are_lines = All-append (IsLine CERT_LINE_LEN_MAX) lines (certificate_line c ∷ []) old.are_lines
             (All-cons (IsLine CERT_LINE_LEN_MAX) (certificate_line c) [] (readable (certificate_line c) back.is_line) (All-nil (IsLine CERT_LINE_LEN_MAX)));
-        steps = along_more (Answers check_rules feed) start lines (certificate_line c) stand new old.steps step;
+        steps = step_more (Answers check_rules feed) start lines (certificate_line c) stand new old.steps step;
       }
 
   -- nothing is written, and nothing to be answered

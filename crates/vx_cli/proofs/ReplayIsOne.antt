@@ -10,7 +10,7 @@ use Rattle.vx_make.specs.Feed.{make_events}
 use Rattle.vx_replay.specs.Ticks.{IsTickAnswer}
 use Rattle.vx_drivers.proofs.TickLawLemmas.{run_is_one}
 use Rattle.vx_replay.proofs.TickAnswerIsOne.{tick_answer_is_one}
-use Rattle.vx_cli.specs.ExitText.{Text}
+use Rattle.vx_drivers.specs.Sending.{Text}
 use Rattle.vx_cli.specs.OutputLines.{line_of, count_text}
 use Rattle.vx_cli.specs.Laws.{ReplayIsOne}
 use Rattle.vx_cli.specs.ReplayLaws.{gives_one}

@@ -1,7 +1,8 @@
 -- How the form of a command line goes by its first word.
 use Rattle.std.proofs.Common.{◌≡◌, ap, true, false, List, ◌∷◌, None, sym, if◌then◌else◌}
 use Rattle.std.specs.List.{list_all}
-use Rattle.vx_cli.specs.Words.{Text, command_of, form_of, is_plain_word, named_form}
+use Rattle.vx_drivers.specs.Sending.{Text}
+use Rattle.vx_cli.specs.Words.{command_of, form_of, is_plain_word, named_form}
 use Rattle.vx_cli.proofs.OperandLemmas.{and-right}
 
 pub command-refused : (words : List Text) → list_all is_plain_word words ≡ false → None ≡ command_of words

@@ -13,7 +13,7 @@ use Rattle.vx_reading.specs.declared.stop.FeedStop.TheVariants.{BadLine, Device,
 use Rattle.vx_cli.specs.declared.drill.AnswerCounts.{AnswerCounts}
 use Rattle.vx_cli.specs.DrillRuns.{CountsText, HasCounted, drill_line}
 use Rattle.vx_cli.specs.DrillText.{Drills}
-use Rattle.vx_cli.specs.ExitText.{Text}
+use Rattle.vx_drivers.specs.Sending.{Text}
 use Rattle.vx_cli.specs.Laws.{DrillAnswersEveryTick}
 use Rattle.vx_cli.specs.ReplayText.{Answered, Tick, ticks_from}
 use Rattle.vx_cli.proofs.DrillLemmas.{line_is}

@@ -34,8 +34,8 @@ use Rattle.vx_drivers.specs.Answers.{said_yes, answers_text, end_text}
 use Rattle.vx_drivers.specs.CertificateRun.{Answers, AnswersCertificate, Stand, certificates_of, start}
 use Rattle.vx_drivers.specs.PositionRun.{RunsUnlessBad, positions_of}
 use Rattle.vx_cli.specs.Accepted.{OpeningIsAccepted, SettleIsAccepted, yes_to_opening}
-use Rattle.vx_cli.specs.CheckRuns.{Checks, IsVerdict, check_rules, stated_text, yes_words}
-use Rattle.vx_cli.specs.ExitText.{Text}
+use Rattle.vx_cli.specs.CheckRuns.{Checks, IsAnswerTo, check_rules, stated_text, yes_words}
+use Rattle.vx_drivers.specs.Sending.{Text}
 use Rattle.vx_cli.specs.OutputLines.{cents_text}
 use Rattle.vx_cli.specs.ReadBack.{IsReadFromLine, OpeningCertificateIsRead}
 use Rattle.vx_cli.specs.SettleRuns.{AnsweredOpening, settle_rules}
@@ -114,8 +114,8 @@ lines_are line certs is same =
     let few : length (line ∷ []) ≤ CERT_LINES_MAX = omega arith in
     ap (at_most CERT_LINES_MAX) cut ∙ at_most_all CERT_LINES_MAX (one_line line) few
 
-no_lines : (certs : List ℕ) → certs ≡ [] → certificates_of certs ≡ ended at_end
-no_lines certs same =
+no_certificate_lines : (certs : List ℕ) → certs ≡ [] → certificates_of certs ≡ ended at_end
+no_certificate_lines certs same =
     ap certificates_of same ∙ ap (at_most CERT_LINES_MAX) (lines_of_nothing CERT_LINE_LEN_MAX) ∙ at_most_ended CERT_LINES_MAX at_end
 
 -- over no certificate there is nothing to say
@@ -123,13 +123,13 @@ checks_none : (feed certs : List ℕ) → (reading_of feed).bad ≡ None → cer
 checks_none feed certs none same = record {
   stand = start;
   rest = ended at_end;
-  before = record { lines = []; are_first = no_lines certs same; steps = refl };
+  before = record { lines = []; are_first = no_certificate_lines certs same; steps = refl };
   ends = (record { no_line = refl; no_bad = none }, refl);
   text_is = refl;
 }
 
 checks_one : (feed certs : List ℕ) (c : Certificate) (words : Text) → (reading_of feed).bad ≡ None → IsReadFromLine c → certs ≡ certificate_line c ++ 10 ∷ []
-    → IsVerdict (take c.line (reading_of feed).events) c (said_yes words)
+    → IsAnswerTo (take c.line (reading_of feed).events) c (said_yes words)
     → Checks feed certs Done (answers_text (said_yes words ∷ []) ++ end_text (said_yes words ∷ []))
 checks_one feed certs c words none back same verdict =
     let reading : Reading = reading_of feed in
@@ -173,10 +173,10 @@ opening_checks feed certs time (Published figure) none times (minute, publishes)
     let part : List Event = take line events in
     let seen = publishes_up_to events minute figure.cents figure.lo figure.hi c (feed_begins feed) publishes in
     let words : Text = clock_text minute ++ codes "," ++ cents_text figure.cents in
-    let verdict : IsVerdict part c (said_yes words) =
+    let verdict : IsAnswerTo part c (said_yes words) =
     (seen.accepted, published_means part line minute figure.cents figure.lo figure.hi c seen, words_are part line minute figure.cents figure.lo figure.hi c seen) in
-    let at_line : IsVerdict (take c.line events) c (said_yes words) =
-    subst (λ (l : ℕ). IsVerdict (take l events) c (said_yes words)) (sym publishes.names_line.line_is) verdict in
+    let at_line : IsAnswerTo (take c.line events) c (said_yes words) =
+    subst (λ (l : ℕ). IsAnswerTo (take l events) c (said_yes words)) (sym publishes.names_line.line_is) verdict in
     subst (λ (t : Option ℕ). SaysYes feed certs t (Published figure)) (sym clocks) (checks_one feed certs c words none back same at_line)
 
 settled : (feed certs : List ℕ) (positions : List ℕ) (bad : Option BadLine) (exit : Exit) (out : Text) → bad ≡ None → (reading_of feed).bad ≡ None

@@ -125,9 +125,9 @@ fields_named true said why named is = named is
 fields_named false said why named is = subst IsLineFault (same_err is) tt
 
 -- the fields of a line say what the line says
-line_read : (line : List ℕ) (fields : List (List ℕ)) (result : Result Position PositionFault) → IsSplit line fields → result ≡ position_of_fields fields
+position_line_read : (line : List ℕ) (fields : List (List ℕ)) (result : Result Position PositionFault) → IsSplit line fields → result ≡ position_of_fields fields
     → result ≡ position_of_line line
-line_read line fields result split is =
+position_line_read line fields result split is =
     is ∙ ap position_of_fields split.fields_are ∙ sym (ap (λ (o : Option PositionFault). position_unless o line) (none_unsplit line fields split))
 
 -- ---- the opening
@@ -191,7 +191,7 @@ pub adds_fault : (a : AnsweredOpening) (items : List (Option Settled)) (text : L
     (result : Result Position PositionFault) (why : PositionFault) → IsSplit text fields → result ≡ position_of_fields fields → result ≡ Err why
     → AddsUnless settle_rules HasSettledOn a items text line sheet (Some why)
 adds_fault a items text fields line sheet result why split reads is = (
-  sym (line_read text fields result split reads) ∙ is,
+  sym (position_line_read text fields result split reads) ∙ is,
   fields_named (length fields == 3) (position_of_parts (contract_of_text (field fields 1)) (quantity_of_text (field fields 2)) (last_of_text (field fields 3))) why
       (parts_named (contract_of_text (field fields 1)) (quantity_of_text (field fields 2)) (last_of_text (field fields 3)) why) (sym reads ∙ is),
 )
@@ -203,7 +203,7 @@ pub adds_nothing : (a : AnsweredOpening) (items : List (Option Settled)) (text :
     → AddsUnless settle_rules HasSettledOn a items text line sheet None
 adds_nothing a items text fields line sheet result p h split reads is none empty = record {
   item = None;
-  comes = (p, sym (line_read text fields result split reads) ∙ is, subst (λ o. SettlesTo o p None) (sym none ∙ h.figure_is) refl);
+  comes = (p, sym (position_line_read text fields result split reads) ∙ is, subst (λ o. SettlesTo o p None) (sym none ∙ h.figure_is) refl);
   line_is = empty;
   stands = nothing_more sheet a items h none;
 }
@@ -218,7 +218,7 @@ adds_amount a items text fields line old new result p figure number amount h spl
   item = Some (record { position = p; amount = amount });
   comes = (
     p,
-    sym (line_read text fields result split reads) ∙ is,
+    sym (position_line_read text fields result split reads) ∙ is,
     subst (λ o. SettlesTo o p (Some (record { position = p; amount = amount }))) (sym some ∙ h.figure_is) (amount, settles, refl),
   );
   line_is = line_is ∙ ap (λ n. position_text n p amount) numbered;

@@ -134,17 +134,17 @@ feed_begins feed = lines_begin (lines.lines_of LINE_LEN_MAX feed).lines (lines.l
 abbrev up_to_opening : List Event → List Event
 up_to_opening events = take (suc (length (before_opening events))) events
 
-before_kept : (events : List Event) → before_opening (up_to_opening events) ≡ before_opening events
-before_kept [] = refl
-before_kept (event.Opening time ∷ events) = refl
-before_kept (event.Header day ∷ events) = ap (λ es. event.Header day ∷ es) (before_kept events)
-before_kept (event.Expiry x ∷ events) = ap (λ es. event.Expiry x ∷ es) (before_kept events)
-before_kept (event.Rate x rate ∷ events) = ap (λ es. event.Rate x rate ∷ es) (before_kept events)
-before_kept (event.Series s ∷ events) = ap (λ es. event.Series s ∷ es) (before_kept events)
-before_kept (event.Quote t s bid ask ∷ events) = ap (λ es. event.Quote t s bid ask ∷ es) (before_kept events)
-before_kept (event.Trade t s price ∷ events) = ap (λ es. event.Trade t s price ∷ es) (before_kept events)
-before_kept (event.Tick t ∷ events) = ap (λ es. event.Tick t ∷ es) (before_kept events)
-before_kept (event.End count ∷ events) = ap (λ es. event.End count ∷ es) (before_kept events)
+same_before_opening : (events : List Event) → before_opening (up_to_opening events) ≡ before_opening events
+same_before_opening [] = refl
+same_before_opening (event.Opening time ∷ events) = refl
+same_before_opening (event.Header day ∷ events) = ap (λ es. event.Header day ∷ es) (same_before_opening events)
+same_before_opening (event.Expiry x ∷ events) = ap (λ es. event.Expiry x ∷ es) (same_before_opening events)
+same_before_opening (event.Rate x rate ∷ events) = ap (λ es. event.Rate x rate ∷ es) (same_before_opening events)
+same_before_opening (event.Series s ∷ events) = ap (λ es. event.Series s ∷ es) (same_before_opening events)
+same_before_opening (event.Quote t s bid ask ∷ events) = ap (λ es. event.Quote t s bid ask ∷ es) (same_before_opening events)
+same_before_opening (event.Trade t s price ∷ events) = ap (λ es. event.Trade t s price ∷ es) (same_before_opening events)
+same_before_opening (event.Tick t ∷ events) = ap (λ es. event.Tick t ∷ es) (same_before_opening events)
+same_before_opening (event.End count ∷ events) = ap (λ es. event.End count ∷ es) (same_before_opening events)
 
 time_kept : (events : List Event) → opening_time (up_to_opening events) ≡ opening_time events
 time_kept [] = refl
@@ -276,7 +276,7 @@ publishes_up_to events time cents lo hi c begins h =
     subst (λ (k : ℕ). slice_get part k ≡ slice_get events k) (sym less_one)
     (subst (λ (es : List Event). slice_get es n ≡ slice_get events n) parts (got_kept events n)) in
     publishes_part events part
-    (subst (λ (es : List Event). before_opening es ≡ before_opening events) parts (before_kept events))
+    (subst (λ (es : List Event). before_opening es ≡ before_opening events) parts (same_before_opening events))
     (subst (λ (es : List Event). opening_time es ≡ opening_time events) parts (time_kept events))
     (subst (λ (es : List Event). trade_date es ≡ trade_date events) parts (date_kept events begins))
     (opening_line events) time cents lo hi c (h.is_opening.0, at ∙ h.is_opening.1) h

@@ -25,10 +25,10 @@ ok_version : (version : ℕ) (a : Certificate) → a.v ≡ version → HasVersio
 ok_version version a h = λ c is. let same : a ≡ c = cc in ap (λ (x : Certificate). x.v) (sym same) ∙ h
 
 -- a certificate that follows what was read has a version in range where the version is read first
-abbrev IsInRange : Result Certificate CertFault → Type 0
-IsInRange said = (c : Certificate) → said ≡ Ok c → IsVersion c.v
+abbrev IsRequestInRange : Result Certificate CertFault → Type 0
+IsRequestInRange said = (c : Certificate) → said ≡ Ok c → IsVersion c.v
 
-with_range : (said : Result ℕ CertFault) (next : ℕ → Result Certificate CertFault) → ((version : ℕ) → said ≡ Ok version → IsVersion version) → ((version : ℕ) → HasVersion version (next version)) → IsInRange (with said next)
+with_range : (said : Result ℕ CertFault) (next : ℕ → Result Certificate CertFault) → ((version : ℕ) → said ≡ Ok version → IsVersion version) → ((version : ℕ) → HasVersion version (next version)) → IsRequestInRange (with said next)
 with_range (Ok version) next range h = λ c is. subst IsVersion (sym (h version c is)) (range version refl)
 with_range (Err fault) next range h = λ c is. cc
 

@@ -11,7 +11,7 @@ use Rattle.vx_drivers.specs.TickRun.{published_count}
 use Rattle.vx_replay.specs.declared.answer.TickAnswer.{TickAnswer}
 use Rattle.vx_replay.specs.declared.answer.TickAnswer.TheVariants.{Published}
 use Rattle.vx_cli.specs.CheckRuns.{Checks}
-use Rattle.vx_cli.specs.ExitText.{Text}
+use Rattle.vx_drivers.specs.Sending.{Text}
 use Rattle.vx_cli.specs.OutputLines.{cents_text}
 use Rattle.vx_cli.specs.ReplayRuns.{Replays, replay_rules}
 use Rattle.vx_cli.specs.ReplayText.{Answered}

@@ -1,5 +1,5 @@
 -- A line of certificates is read as one thing at most, and a certificate has one answer at most.
-use Rattle.std.proofs.Common.{◌≡◌, ℕ, Bool, true, false, List, refl, sym, ◌∙◌, ap, inl, inr}
+use Rattle.std.proofs.Common.{◌≡◌, ℕ, List, refl, sym, ◌∙◌, ap, inl, inr}
 use Rattle.std.specs.Prelude.{codes, Result, Ok, Err}
 use Rattle.std.proofs.lemmas.Option.{same_Some}
 use Rattle.vx_feed.specs.declared.events.Event.{Event}
@@ -11,8 +11,9 @@ use Rattle.vx_claims.specs.declared.acceptance.Test.{Test}
 use Rattle.vx_claims.specs.Test.{test_number}
 use Rattle.vx_claims.proofs.FailingLemmas.{failing_test_is_one, accepted_has_no_failing_test}
 use Rattle.vx_drivers.specs.Answers.{Answer, said_yes, said_no}
-use Rattle.vx_cli.specs.ExitText.{Text, field_word}
-use Rattle.vx_cli.specs.CheckRuns.{IsVerdict, ReadsOrSays, test_word, yes_words}
+use Rattle.vx_drivers.specs.Sending.{Text}
+use Rattle.vx_cli.specs.ExitText.{field_word}
+use Rattle.vx_cli.specs.CheckRuns.{IsAnswerTo, ReadsOrSays, test_word}
 
 -- ---- reading
 
@@ -59,7 +60,7 @@ line_reads_one line a b h k = both_read line a b (read_as line a h) (read_as lin
 
 -- ---- judging
 
-pub certificate_judges_one : (events : List Event) (c : Certificate) (a b : Answer) → IsVerdict events c a → IsVerdict events c b → a ≡ b
+pub certificate_judges_one : (events : List Event) (c : Certificate) (a b : Answer) → IsAnswerTo events c a → IsAnswerTo events c b → a ≡ b
 certificate_judges_one events c (said_yes words) (said_yes others) (accepts, means, p) (accepts', means', q) = ap (λ (w : Text). said_yes w) (p ∙ sym q)
 certificate_judges_one events c (said_yes words) (said_no word) (accepts, means, p) (test, first, q) = absurd (accepted_has_no_failing_test events c test accepts first)
 certificate_judges_one events c (said_no word) (said_yes words) (test, first, p) (accepts, means, q) = absurd (accepted_has_no_failing_test events c test accepts first)

@@ -16,7 +16,8 @@ use Rattle.vx_claims.specs.Means.{Means}
 use Rattle.vx_drivers.specs.declared.exit.Exit.{Exit}
 use Rattle.vx_drivers.specs.Answers.{Answer, said_yes, said_no}
 use Rattle.vx_drivers.specs.CertificateRun.{Rules, Runs, certificates_of}
-use Rattle.vx_cli.specs.ExitText.{Text, field_word}
+use Rattle.vx_drivers.specs.Sending.{Text}
+use Rattle.vx_cli.specs.ExitText.{field_word}
 use Rattle.vx_cli.specs.OutputLines.{strike_text, cents_text}
 
 -- what a certificate states: the level of kind `k0`, or a figure
@@ -42,13 +43,13 @@ ReadsOrSays line (Err word) =
 
 -- the answer to a certificate over the feed's events, those up to the line that it names: yes where it is accepted, and
 -- then it means what it states, whoever made it; else no with the first test that fails
-abbrev pub IsVerdict : List Event → Certificate → Answer → Type 0
-IsVerdict events c (said_yes words) = Accepts events c × Means events c × (words ≡ yes_words c)
-IsVerdict events c (said_no word) = (test : Test) × FirstFailing (Meets events c) test × (word ≡ test_word (test_number test))
+abbrev pub IsAnswerTo : List Event → Certificate → Answer → Type 0
+IsAnswerTo events c (said_yes words) = Accepts events c × Means events c × (words ≡ yes_words c)
+IsAnswerTo events c (said_no word) = (test : Test) × FirstFailing (Meets events c) test × (word ≡ test_word (test_number test))
 
 -- what `check` makes of certificates
 abbrev pub check_rules : Rules Certificate
-check_rules = record { ReadsAs = ReadsOrSays; named = λ c. c.line; Judges = IsVerdict }
+check_rules = record { ReadsAs = ReadsOrSays; named = λ c. c.line; Judges = IsAnswerTo }
 
 -- the run of `check` over a feed and a file of certificates, as texts: how it ends, and what it writes to the output
 abbrev pub Checks : List ℕ → List ℕ → Exit → Text → Type 0

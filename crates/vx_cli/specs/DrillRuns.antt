@@ -11,7 +11,8 @@ use Rattle.vx_replay.specs.declared.answer.TickAnswer.{TickAnswer}
 use Rattle.vx_replay.specs.declared.replay.Replay.{Replay}
 use Rattle.vx_replay.specs.StandsFor.{StandsFor}
 use Rattle.vx_cli.specs.declared.drill.AnswerCounts.{AnswerCounts}
-use Rattle.vx_cli.specs.ExitText.{Text}
+use Rattle.vx_cli.specs.declared.drill.CountedReplay.{CountedReplay}
+use Rattle.vx_drivers.specs.Sending.{Text}
 use Rattle.vx_cli.specs.OutputLines.{count_text, line_of}
 use Rattle.vx_cli.specs.ReplayText.{Answered, AnswerTicks, count_answers, is_published, is_refused, is_undecided}
 
@@ -45,6 +46,10 @@ pub record HasCounted (events : List Event) (counts : AnswerCounts) : Type 0 whe
 pub record HasCountedAlong (replay : Replay) (counts : AnswerCounts) (events : List Event) : Type 0 where
   pub stands : StandsFor replay events
   pub counted : HasCounted events counts
+
+-- the same of what counts the answers to a feed's ticks
+abbrev pub CountsStandFor : CountedReplay → List Event → Type 0
+CountsStandFor counted events = HasCountedAlong counted.replay counted.counts events
 
 -- the counts of a feed's text where no line is bad, or else its bad line; a text in memory has no fault of a device,
 -- and want of memory says nothing

@@ -2,7 +2,7 @@
 use Rattle.std.specs.Prelude.{◌≡◌, ℕ, List, ◌∷◌, length, codes}
 use Rattle.vx_clock.specs.declared.limits.TheConstants.{INDEX_DAYS, INDEX_WINDOW}
 use Rattle.vx_make.specs.Feed.{make_events}
-use Rattle.vx_cli.specs.ExitText.{Text}
+use Rattle.vx_drivers.specs.Sending.{Text}
 use Rattle.vx_cli.specs.OutputLines.{line_of, count_text}
 use Rattle.vx_cli.specs.ReplayText.{Answered, AnswerTicks, tally_of}
 

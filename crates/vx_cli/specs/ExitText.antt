@@ -1,5 +1,5 @@
 -- The line that the program prints on standard error for each exit. Each line ends with LF.
-use Rattle.std.specs.Prelude.{ℕ, List, [], ◌∷◌, ◌++◌, codes}
+use Rattle.std.specs.Prelude.{ℕ, [], ◌∷◌, ◌++◌, codes}
 use Rattle.vx_num.specs.Written.{decimal_text}
 use Rattle.vx_desk.specs.declared.device.Slot.{Slot}
 use Rattle.vx_desk.specs.declared.device.Slot.TheVariants as slot
@@ -15,9 +15,7 @@ use Rattle.vx_reading.specs.declared.stop.FeedCause.{FeedCause}
 use Rattle.vx_reading.specs.declared.stop.FeedCause.TheVariants as feed_cause
 use Rattle.vx_drivers.specs.declared.exit.PositionCause.{PositionCause}
 use Rattle.vx_drivers.specs.declared.exit.PositionCause.TheVariants as position_cause
-
-abbrev pub Text : Type 0
-Text = List ℕ
+use Rattle.vx_drivers.specs.Sending.{Text}
 
 abbrev pub slot_word : Slot → Text
 slot_word slot.Feed = codes "feed"

@@ -3,6 +3,7 @@ use Rattle.std.specs.Prelude.{ℕ, List, length, Option, option_map}
 use Rattle.vx_feed.specs.declared.events.Event.{Event}
 use Rattle.vx_replay.specs.declared.replay.Replay.{Replay}
 use Rattle.vx_replay.specs.StandsFor.{StandsFor}
+use Rattle.vx_cli.specs.declared.replay.TickAnswers.{TickAnswers}
 use Rattle.vx_cli.specs.declared.replay.TimedAnswer.{TimedAnswer}
 use Rattle.vx_cli.specs.ReplayRuns.{GivesAnswer}
 use Rattle.vx_cli.specs.ReplayText.{Answered}
@@ -19,3 +20,7 @@ GivesTimed events last = GivesAnswer events (option_map (answered_at (length eve
 pub record HasAnsweredLast (replay : Replay) (last : Option TimedAnswer) (events : List Event) : Type 0 where
   pub stands : StandsFor replay events
   pub gives : GivesTimed events last
+
+-- the same of what answers a feed's ticks
+abbrev pub AnswersStandFor : TickAnswers → List Event → Type 0
+AnswersStandFor answers events = HasAnsweredLast answers.replay answers.last events

@@ -1,7 +1,7 @@
 -- The laws of what the commands write: each text is a function of what is read, and `drill` leaves no tick out.
 use Rattle.std.specs.Prelude.{◌≡◌, ℕ, List, length}
 use Rattle.vx_drivers.specs.declared.exit.Exit.{Exit}
-use Rattle.vx_cli.specs.ExitText.{Text}
+use Rattle.vx_drivers.specs.Sending.{Text}
 use Rattle.vx_cli.specs.CheckRuns.{Checks}
 use Rattle.vx_cli.specs.ReplayRuns.{Replays}
 use Rattle.vx_cli.specs.SettleRuns.{Settles}

@@ -1,7 +1,7 @@
 -- How output lines are written. This project's own format.
 use Rattle.std.specs.Prelude.{ℕ, suc, ℤ, pos, negsuc, List, [], ◌∷◌, ◌++◌}
 use Rattle.vx_num.specs.Written.{decimal_text}
-use Rattle.vx_cli.specs.ExitText.{Text}
+use Rattle.vx_drivers.specs.Sending.{Text}
 
 -- pieces with commas (44) between
 abbrev pub comma_separated : List Text → Text

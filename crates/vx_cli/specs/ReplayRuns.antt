@@ -12,7 +12,7 @@ use Rattle.vx_replay.specs.declared.answer.TickAnswer.{TickAnswer}
 use Rattle.vx_replay.specs.declared.answer.TickAnswer.TheVariants.{Published, UndecidedCents, UndecidedForward, Refused}
 use Rattle.vx_replay.specs.Ticks.{IsIndexAnswer}
 use Rattle.vx_replay.specs.Lawful.{IsLawfulAnswer}
-use Rattle.vx_cli.specs.ExitText.{Text}
+use Rattle.vx_drivers.specs.Sending.{Text}
 use Rattle.vx_cli.specs.ReadBack.{CertificateIsRead}
 use Rattle.vx_cli.specs.ReplayText.{Answered, certified_text, tick_text}
 

@@ -13,7 +13,7 @@ use Rattle.vx_replay.specs.declared.answer.Reason.TheVariants.{NoTerm, Term, Neg
 use Rattle.vx_replay.specs.declared.answer.Which.{Which}
 use Rattle.vx_replay.specs.declared.answer.Which.TheVariants.{Near, Next, Both}
 use Rattle.vx_replay.specs.Ticks.{IsTickAnswer}
-use Rattle.vx_cli.specs.ExitText.{Text}
+use Rattle.vx_drivers.specs.Sending.{Text}
 use Rattle.vx_cli.specs.OutputLines.{line_of, count_text, strike_text, cents_text, index_end_text, forward_end_text}
 
 abbrev pub which_word : Which → Text

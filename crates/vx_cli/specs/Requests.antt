@@ -17,9 +17,9 @@ abbrev pub IsSample : ℕ → ℕ → Type 0
 IsSample number ticks = (number < STATES) × (1 ≤ ticks) × (ticks ≤ TICKS_MAX)
 
 -- the numbers of a request for a sample feed are those of one
-abbrev pub IsInRange : Request → Type 0
-IsInRange (Replay feed certs) = Unit {0}
-IsInRange (Check feed certs) = Unit {0}
-IsInRange (Settle feed positions certs) = Unit {0}
-IsInRange (Make number ticks) = IsSample number ticks
-IsInRange (Drill number ticks) = IsSample number ticks
+abbrev pub IsRequestInRange : Request → Type 0
+IsRequestInRange (Replay feed certs) = Unit {0}
+IsRequestInRange (Check feed certs) = Unit {0}
+IsRequestInRange (Settle feed positions certs) = Unit {0}
+IsRequestInRange (Make number ticks) = IsSample number ticks
+IsRequestInRange (Drill number ticks) = IsSample number ticks

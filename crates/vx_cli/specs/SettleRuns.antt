@@ -12,7 +12,7 @@ use Rattle.vx_soq.specs.Openings.{IsOpeningAnswer}
 use Rattle.vx_soq.specs.Lawful.{IsLawfulOpening}
 use Rattle.vx_drivers.specs.declared.exit.Exit.{Exit}
 use Rattle.vx_drivers.specs.PositionRun.{PositionRules, RunsPositions, positions_of}
-use Rattle.vx_cli.specs.ExitText.{Text}
+use Rattle.vx_drivers.specs.Sending.{Text}
 use Rattle.vx_cli.specs.ReadBack.{OpeningCertificateIsRead}
 use Rattle.vx_cli.specs.SettleText.{Settled, figure_of, last_text, opening_certificate_text, opening_clock, opening_text, settled_line}
 

@@ -10,7 +10,7 @@ use Rattle.vx_soq.specs.declared.answer.OpeningAnswer.{OpeningAnswer}
 use Rattle.vx_soq.specs.declared.answer.OpeningAnswer.TheVariants.{Published, Refused, UndecidedForward, UndecidedCents}
 use Rattle.vx_soq.specs.declared.answer.SoqReason.{SoqReason}
 use Rattle.vx_soq.specs.declared.answer.SoqReason.TheVariants.{NoOpening, NoTerm, Term, NegativeVariance}
-use Rattle.vx_cli.specs.ExitText.{Text}
+use Rattle.vx_drivers.specs.Sending.{Text}
 use Rattle.vx_cli.specs.OutputLines.{line_of, count_text, signed_text, strike_text, cents_text, index_end_text, forward_end_text}
 use Rattle.vx_cli.specs.ReplayText.{refusal_word}
 

@@ -7,9 +7,7 @@ use Rattle.std.specs.Str.{bytes_eq}
 use Rattle.vx_num.specs.Decimal.{decimal_of}
 use Rattle.vx_feed.specs.Form.{if_positive}
 use Rattle.vx_make.specs.declared.limits.TheConstants.{STATES, TICKS_MAX}
-
-abbrev pub Text : Type 0
-Text = List ℕ
+use Rattle.vx_drivers.specs.Sending.{Text}
 
 -- the word is not empty and does not begin with `-` (45)
 abbrev pub is_plain_word : Text → Bool

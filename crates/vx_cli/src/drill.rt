@@ -89,20 +89,16 @@ impl AnswerCounts {
 }
 
 impl CountedReplay {
-    ghost use Rattle.std.specs.Prelude.{◌≡◌, ◌++◌, List, [], ◌∷◌, None, OnErr, OnOk};
-    ghost use Rattle.vx_feed.specs.declared.events.Event.{Event};
-    ghost use Rattle.vx_feed.specs.Order.{IsLawfulNext};
-    ghost use Rattle.vx_cli.specs.DrillRuns.{HasCountedAlong};
+    ghost use Rattle.std.specs.Prelude.{◌≡◌, None};
+    ghost use Rattle.vx_reading.specs.Takes.{MayTakeUp, KeepsStanding, TakesUp};
+    ghost use Rattle.vx_cli.specs.DrillRuns.{CountsStandFor};
     ghost use Rattle.vx_cli.specs.ReplayRuns.{minute_of_tick};
 
     /// Takes up an event, and counts what it is answered.
     fn step(&mut self, event: Event) -> Result<(), NoMemory>
-        requires lawful { (events : List Event) × HasCountedAlong self.old.replay self.old.counts events
-            × IsLawfulNext events event }
-        ensures taken { (events : List Event) → HasCountedAlong self.old.replay self.old.counts events
-            → IsLawfulNext events event → OnOk result (HasCountedAlong self.new.replay self.new.counts (events ++ event ∷ [])) }
-        ensures kept { (events : List Event) → HasCountedAlong self.old.replay self.old.counts events
-            → OnErr result (HasCountedAlong self.new.replay self.new.counts events) }
+        requires lawful { MayTakeUp CountsStandFor self.old event }
+        ensures taken { TakesUp CountsStandFor self.old event self.new result }
+        ensures kept { KeepsStanding CountsStandFor self.old self.new result }
     {
         let answer = self.replay.step(&event)?;
         self.counts.count(&answer);
@@ -111,13 +107,10 @@ impl CountedReplay {
 
     /// Takes up an event that is no tick. An answer is large, and none is made here.
     fn take_up(&mut self, event: Event) -> Result<(), NoMemory>
-        requires lawful { (events : List Event) × HasCountedAlong self.old.replay self.old.counts events
-            × IsLawfulNext events event }
+        requires lawful { MayTakeUp CountsStandFor self.old event }
         requires no_tick { minute_of_tick event ≡ None }
-        ensures taken { (events : List Event) → HasCountedAlong self.old.replay self.old.counts events
-            → IsLawfulNext events event → OnOk result (HasCountedAlong self.new.replay self.new.counts (events ++ event ∷ [])) }
-        ensures kept { (events : List Event) → HasCountedAlong self.old.replay self.old.counts events
-            → OnErr result (HasCountedAlong self.new.replay self.new.counts events) }
+        ensures taken { TakesUp CountsStandFor self.old event self.new result }
+        ensures kept { KeepsStanding CountsStandFor self.old self.new result }
     {
         self.replay.take_up(&event)?;
         self.counts.count_line();
@@ -126,9 +119,9 @@ impl CountedReplay {
 }
 
 impl TakesEvents for CountedReplay {
-    ghost use Rattle.vx_cli.specs.DrillRuns.{HasCountedAlong};
+    ghost use Rattle.vx_cli.specs.DrillRuns.{CountsStandFor};
 
-    ghost StandsFor = { λ taker events. HasCountedAlong taker.replay taker.counts events };
+    ghost StandsFor = { CountsStandFor };
 
     fn take(&mut self, event: Event) -> Result<(), NoMemory> {
         match tick_minute(event) {

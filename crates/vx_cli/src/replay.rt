@@ -63,19 +63,15 @@ impl TimedAnswer {
 }
 
 impl TickAnswers {
-    ghost use Rattle.std.specs.Prelude.{◌≡◌, ◌++◌, List, [], ◌∷◌, None, OnErr, OnOk};
-    ghost use Rattle.vx_feed.specs.declared.events.Event.{Event};
-    ghost use Rattle.vx_feed.specs.Order.{IsLawfulNext};
-    ghost use Rattle.vx_cli.specs.LastAnswer.{HasAnsweredLast};
+    ghost use Rattle.std.specs.Prelude.{◌≡◌, None};
+    ghost use Rattle.vx_reading.specs.Takes.{MayTakeUp, KeepsStanding, TakesUp};
+    ghost use Rattle.vx_cli.specs.LastAnswer.{AnswersStandFor};
 
     /// Takes up an event, and keeps what it is answered.
     fn step(&mut self, event: Event) -> Result<(), NoMemory>
-        requires lawful { (events : List Event) × HasAnsweredLast self.old.replay self.old.last events
-            × IsLawfulNext events event }
-        ensures taken { (events : List Event) → HasAnsweredLast self.old.replay self.old.last events
-            → IsLawfulNext events event → OnOk result (HasAnsweredLast self.new.replay self.new.last (events ++ event ∷ [])) }
-        ensures kept { (events : List Event) → HasAnsweredLast self.old.replay self.old.last events
-            → OnErr result (HasAnsweredLast self.new.replay self.new.last events) }
+        requires lawful { MayTakeUp AnswersStandFor self.old event }
+        ensures taken { TakesUp AnswersStandFor self.old event self.new result }
+        ensures kept { KeepsStanding AnswersStandFor self.old self.new result }
     {
         let answer = self.replay.step(&event)?;
         self.last = TimedAnswer::of_event(event, answer);
@@ -92,13 +88,10 @@ impl TickAnswers {
 
     /// Takes up an event that is no tick. An answer is large, and none is made or moved here.
     fn take_up(&mut self, event: Event) -> Result<(), NoMemory>
-        requires lawful { (events : List Event) × HasAnsweredLast self.old.replay self.old.last events
-            × IsLawfulNext events event }
+        requires lawful { MayTakeUp AnswersStandFor self.old event }
         requires no_tick { minute_of_tick event ≡ None }
-        ensures taken { (events : List Event) → HasAnsweredLast self.old.replay self.old.last events
-            → IsLawfulNext events event → OnOk result (HasAnsweredLast self.new.replay self.new.last (events ++ event ∷ [])) }
-        ensures kept { (events : List Event) → HasAnsweredLast self.old.replay self.old.last events
-            → OnErr result (HasAnsweredLast self.new.replay self.new.last events) }
+        ensures taken { TakesUp AnswersStandFor self.old event self.new result }
+        ensures kept { KeepsStanding AnswersStandFor self.old self.new result }
     {
         self.replay.take_up(&event)?;
         if self.last.is_none() {
@@ -110,9 +103,9 @@ impl TickAnswers {
 }
 
 impl TakesEvents for TickAnswers {
-    ghost use Rattle.vx_cli.specs.LastAnswer.{HasAnsweredLast};
+    ghost use Rattle.vx_cli.specs.LastAnswer.{AnswersStandFor};
 
-    ghost StandsFor = { λ taker events. HasAnsweredLast taker.replay taker.last events };
+    ghost StandsFor = { AnswersStandFor };
 
     fn take(&mut self, event: Event) -> Result<(), NoMemory> {
         match tick_minute(event) {

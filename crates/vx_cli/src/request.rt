@@ -2,7 +2,7 @@
 
 ghost use Rattle.std.specs.Prelude.{◌≡◌, ◌<◌, ◌≤◌, true, IfOk, IfSome, map, option_and_then, option_map, string_bytes};
 ghost use Rattle.std.specs.List.{list_all};
-ghost use Rattle.vx_cli.specs.Requests.{IsInRange, IsSample, asked};
+ghost use Rattle.vx_cli.specs.Requests.{IsRequestInRange, IsSample, asked};
 ghost use Rattle.vx_cli.specs.Words.{check_form, command_of, drill_form, is_plain_word, make_form, named_form};
 ghost use Rattle.vx_cli.specs.Words.{number_of, replay_form, sample_of, settle_form, three_files, three_of, ticks_of, two_files, two_of};
 
@@ -81,7 +81,7 @@ fn read_files<'a>(
 fn read_replay<'a>(alloc: Global, operands: &'a [String]) -> Result<Option<Request<'a>>, NoMemory>
     requires { list_all is_plain_word (map string_bytes operands.now) ≡ true }
     ensures asked { IfOk result (λ r. option_map asked r ≡ replay_form (map string_bytes operands.now)) }
-    ensures in_range { IfOk result (λ r. IfSome r IsInRange) }
+    ensures in_range { IfOk result (λ r. IfSome r IsRequestInRange) }
 {
     let Some((feed, certs)) = read_files(alloc, operands)? else {
         return Ok(None);
@@ -93,7 +93,7 @@ fn read_replay<'a>(alloc: Global, operands: &'a [String]) -> Result<Option<Reque
 fn read_check<'a>(alloc: Global, operands: &'a [String]) -> Result<Option<Request<'a>>, NoMemory>
     requires { list_all is_plain_word (map string_bytes operands.now) ≡ true }
     ensures asked { IfOk result (λ r. option_map asked r ≡ check_form (map string_bytes operands.now)) }
-    ensures in_range { IfOk result (λ r. IfSome r IsInRange) }
+    ensures in_range { IfOk result (λ r. IfSome r IsRequestInRange) }
 {
     let Some((feed, certs)) = read_files(alloc, operands)? else {
         return Ok(None);
@@ -123,7 +123,7 @@ fn read_three_files<'a>(
 fn read_settle<'a>(alloc: Global, operands: &'a [String]) -> Result<Option<Request<'a>>, NoMemory>
     requires { list_all is_plain_word (map string_bytes operands.now) ≡ true }
     ensures asked { IfOk result (λ r. option_map asked r ≡ settle_form (map string_bytes operands.now)) }
-    ensures in_range { IfOk result (λ r. IfSome r IsInRange) }
+    ensures in_range { IfOk result (λ r. IfSome r IsRequestInRange) }
 {
     let Some((feed, positions, certs)) = read_three_files(alloc, operands)? else {
         return Ok(None);
@@ -178,7 +178,7 @@ fn read_sample(alloc: Global, operands: &[String]) -> Result<Option<(u32, u32)>,
 fn read_make<'a>(alloc: Global, operands: &'a [String]) -> Result<Option<Request<'a>>, NoMemory>
     requires { list_all is_plain_word (map string_bytes operands.now) ≡ true }
     ensures asked { IfOk result (λ r. option_map asked r ≡ make_form (map string_bytes operands.now)) }
-    ensures in_range { IfOk result (λ r. IfSome r IsInRange) }
+    ensures in_range { IfOk result (λ r. IfSome r IsRequestInRange) }
 {
     let Some((number, ticks)) = read_sample(alloc, operands)? else {
         return Ok(None);
@@ -190,7 +190,7 @@ fn read_make<'a>(alloc: Global, operands: &'a [String]) -> Result<Option<Request
 fn read_drill<'a>(alloc: Global, operands: &'a [String]) -> Result<Option<Request<'a>>, NoMemory>
     requires { list_all is_plain_word (map string_bytes operands.now) ≡ true }
     ensures asked { IfOk result (λ r. option_map asked r ≡ drill_form (map string_bytes operands.now)) }
-    ensures in_range { IfOk result (λ r. IfSome r IsInRange) }
+    ensures in_range { IfOk result (λ r. IfSome r IsRequestInRange) }
 {
     let Some((number, ticks)) = read_sample(alloc, operands)? else {
         return Ok(None);
@@ -206,7 +206,7 @@ fn read_operands<'a>(
 ) -> Result<Option<Request<'a>>, NoMemory>
     requires { list_all is_plain_word (map string_bytes operands.now) ≡ true }
     ensures asked { IfOk result (λ r. option_map asked r ≡ named_form name.now (map string_bytes operands.now)) }
-    ensures in_range { IfOk result (λ r. IfSome r IsInRange) }
+    ensures in_range { IfOk result (λ r. IfSome r IsRequestInRange) }
 {
     if name == "replay" {
         read_replay(alloc, operands)
@@ -229,7 +229,7 @@ pub(crate) fn read_request<'a>(
     words: &'a [String],
 ) -> Result<Option<Request<'a>>, NoMemory>
     ensures asked { IfOk result (λ r. option_map asked r ≡ command_of (map string_bytes words.now)) }
-    ensures in_range { IfOk result (λ r. IfSome r IsInRange) }
+    ensures in_range { IfOk result (λ r. IfSome r IsRequestInRange) }
 {
     if !are_plain(words) {
         return Ok(None);

@@ -41,24 +41,24 @@ more_lines limit first second a b = record {
 }
 
 -- a line before others
-line_before : (limit : ℕ) (line text : List ℕ) → IsLine limit line → IsLinesText limit text → IsLinesText limit (line ++ line_feed ∷ text)
-line_before limit line text is rest = record {
+line_put_before : (limit : ℕ) (line text : List ℕ) → IsLine limit line → IsLinesText limit text → IsLinesText limit (line ++ line_feed ∷ text)
+line_put_before limit line text is rest = record {
   lines = line ∷ rest.lines;
   whole = ap (λ t. line ++ line_feed ∷ t) rest.whole;
   are_lines = All-cons (IsLine limit) line rest.lines is rest.are_lines;
 }
 
 -- bytes with an LF behind them are lines that fit, where they all fit
-ended_by : (limit : ℕ) (front : List ℕ) (byte : ℕ) (rest : List ℕ) (is_lf : Bool) → HasNoLf front → length front + length (byte ∷ rest) ≤ limit → (byte == LF) ≡ is_lf
+line_ended_by : (limit : ℕ) (front : List ℕ) (byte : ℕ) (rest : List ℕ) (is_lf : Bool) → HasNoLf front → length front + length (byte ∷ rest) ≤ limit → (byte == LF) ≡ is_lf
     → ((f : List ℕ) → HasNoLf f → length f + length rest ≤ limit → IsLinesText limit (f ++ (rest ++ LF ∷ []))) → IsLinesText limit (front ++ (byte ∷ rest ++ LF ∷ []))
-ended_by limit front byte rest true none few is more =
+line_ended_by limit front byte rest true none few is more =
     let same : byte ≡ LF = lf byte is in
     subst (λ b. IsLinesText limit (front ++ (b ∷ rest ++ LF ∷ []))) (sym same)
-    (line_before limit front (rest ++ LF ∷ []) (record { fits = omega (arith, few); no_lf = none }) (more [] (All-nil (λ b. b ≢ line_feed)) (omega (arith, few))))
+    (line_put_before limit front (rest ++ LF ∷ []) (record { fits = omega (arith, few); no_lf = none }) (more [] (All-nil (λ b. b ≢ line_feed)) (omega (arith, few))))
   where
     lf : (b : ℕ) → (b == LF) ≡ true → b ≡ LF
     lf b is = grind (arith, nat_tests)
-ended_by limit front byte rest false none few is more =
+line_ended_by limit front byte rest false none few is more =
     let one : HasNoLf (byte ∷ []) = All-cons (λ b. b ≢ line_feed) byte [] (other byte is) (All-nil (λ b. b ≢ line_feed)) in
     subst (IsLinesText limit) (append_assoc front (byte ∷ []) (rest ++ LF ∷ []))
     (more (front ++ byte ∷ []) (All-append (λ b. b ≢ line_feed) front (byte ∷ []) none one) (omega (arith, few, length-append front (byte ∷ []))))
@@ -67,8 +67,8 @@ ended_by limit front byte rest false none few is more =
     other b is = grind (arith, nat_tests)
 
 lines_ended : (limit : ℕ) (rest front : List ℕ) → HasNoLf front → length front + length rest ≤ limit → IsLinesText limit (front ++ (rest ++ LF ∷ []))
-lines_ended limit [] front none few = line_before limit front [] (record { fits = omega (arith, few); no_lf = none }) (no_lines limit)
-lines_ended limit (byte ∷ rest) front none few = ended_by limit front byte rest (byte == LF) none few refl (λ f no small. lines_ended limit rest f no small)
+lines_ended limit [] front none few = line_put_before limit front [] (record { fits = omega (arith, few); no_lf = none }) (no_lines limit)
+lines_ended limit (byte ∷ rest) front none few = line_ended_by limit front byte rest (byte == LF) none few refl (λ f no small. lines_ended limit rest f no small)
 
 -- up to an LF within a window of one byte more than a line may have there are lines that fit
 pub window_lines : (limit : ℕ) (bytes window : List ℕ) (found : Option ℕ) (at : ℕ) → window ≡ take (min (limit + 1) (length bytes)) bytes → IsLastByte (is_byte LF) window found → found ≡ Some at

@@ -16,7 +16,7 @@ use Rattle.vx_desk.specs.declared.lines.TheConstants.{LF}
 use Rattle.vx_desk.specs.Told.{Told, ChangesReads, ChangesOnly}
 use Rattle.vx_desk.specs.Lines.{ReaderState, to_come, HasNoLf, IsTooLong, IsCutOff, next_number, GivesLine, GivesNone, AnswersNext, CountsReads}
 use Rattle.vx_desk.specs.Lines.{IsLineOrLong, holds_line}
-use Rattle.vx_desk.specs.Refill.{IsFirstLf, Refills, IsCut, Cuts, EndsInput}
+use Rattle.vx_desk.specs.Refill.{IsFirstLf, Refills, CutsLine, Cuts, EndsInput}
 use Rattle.vx_desk.proofs.ReaderLemmas.{prepend_known-append, no_lf_passes}
 
 -- the reader with these bytes waiting
@@ -75,7 +75,7 @@ split_at_lf xs place lf =
 
 -- the line that is cut off is the first of the bytes to come
 pub gives_line : (old now new : ReaderState) (before after : Told) (place : ℕ) (line : Line) → ReadsOn old now before after
-    → IsFirstLf now.waiting place → IsCut now new place line → GivesLine old new (to_come old before) (to_come new after) line
+    → IsFirstLf now.waiting place → CutsLine now new place line → GivesLine old new (to_come old before) (to_come new after) line
 gives_line old now new before after place line on lf cut =
     let number = ap (λ (s : ReaderState). s.number) on.state in
     let bytes = ap (λ (s : ReaderState). s.last_bytes) cut.state in

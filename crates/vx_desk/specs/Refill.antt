@@ -29,7 +29,7 @@ pub record Refills (old new : ReaderState) (before after : Told) (result : Resul
   pub at_end : MatchResult result (λ n. n ≡ 0 → IsAtEnd after.left) (λ _. Unit {0})
 
 -- the line has the waiting bytes before this place, and those after it still wait
-pub record IsCut (old new : ReaderState) (place : ℕ) (line : Line) : Type 0 where
+pub record CutsLine (old new : ReaderState) (place : ℕ) (line : Line) : Type 0 where
   pub fits : place ≤ old.limit
   pub numbered : line.number ≡ next_number old.number
   pub size : line.end ≡ line.start + place
@@ -38,7 +38,7 @@ pub record IsCut (old new : ReaderState) (place : ℕ) (line : Line) : Type 0 wh
 -- the waiting bytes up to the LF at this place are given as a line, or are too many for one
 abbrev pub Cuts : ReaderState → ReaderState → ℕ → Result (Option Line) ReadFault → Type 0
 Cuts old new place (Ok None) = ⊥
-Cuts old new place (Ok (Some line)) = IsCut old new place line
+Cuts old new place (Ok (Some line)) = CutsLine old new place line
 Cuts old new place (Err fault) = (old.limit < place) × (fault ≡ LineTooLong (next_number old.number)) × (new ≡ record old { is_ended = true })
 
 -- at the end of the input nothing waits, or the last line has no LF

@@ -5,7 +5,7 @@ use Rattle.std.specs.Io.KnownBytes.{prepend_known, append_known, IsAtEnd}
 use Rattle.vx_desk.specs.declared.device.Slot.{Slot}
 use Rattle.vx_desk.specs.declared.device.Slot.TheVariants.{Out}
 use Rattle.vx_desk.specs.declared.device.Failed.{Failed}
-use Rattle.vx_desk.specs.Slots.{IsReading, IsWriting}
+use Rattle.vx_desk.specs.Slots.{IsReadingSlot, IsWritingSlot}
 
 -- what a desk tells of one slot; `None` is content that it does not tell
 pub record Told : Type 0 where
@@ -54,8 +54,8 @@ LeavesNothingSent old new = new.sent ≡ option_map (λ bytes. []) old.sent
 pub record IsOpened (slot : Slot) (opened_with : List ℕ) (held : Option (List ℕ)) (old new : Told) : Type 0 where
   pub open_now : IsTrue new.is_open
   pub name_given : IfSome new.name (λ bytes. bytes ≡ opened_with)
-  pub to_read : IsReading slot → LeavesHeld held new × (new.sent ≡ old.sent)
-  pub to_write : IsWriting slot → LeavesNothingSent old new × (new.left ≡ old.left)
+  pub to_read : IsReadingSlot slot → LeavesHeld held new × (new.sent ≡ old.sent)
+  pub to_write : IsWritingSlot slot → LeavesNothingSent old new × (new.left ≡ old.left)
 
 -- the content and the state of a slot are as they were
 pub record SameContent (old new : Told) : Type 0 where

@@ -1,7 +1,7 @@
 //! What a desk of devices does: its slots, and the calls that open, read and write them.
 
 ghost use Rattle.std.specs.Prelude.{◌≡◌, List, ℕ, Option, Bool, false, IsTrue};
-ghost use Rattle.vx_desk.specs.Slots.{IsReading, IsWriting};
+ghost use Rattle.vx_desk.specs.Slots.{IsReadingSlot, IsWritingSlot};
 ghost use Rattle.vx_desk.specs.Told.{Told, Opens, Reads, Writes, ChangesOnly, OutIsOpen};
 ghost use Rattle.vx_desk.specs.declared.device.Slot.{Slot};
 
@@ -43,7 +43,7 @@ pub trait Desk {
     /// Reads the first of the bytes that are left in a slot to the front of `buf`, and answers how
     /// many there were. The answer 0 into a buffer that is not empty means the end of input.
     fn read(&mut self, slot: Slot, buf: &mut [u8]) -> Result<usize, Failed>
-        requires reading { IsReading slot }
+        requires reading { IsReadingSlot slot }
         requires open { IsTrue (told self.old slot).is_open }
         ensures reads { Reads buf.new (told self.old slot) (told self.new slot) result }
         ensures others { ChangesOnly slot (told self.old) (told self.new) }
@@ -52,7 +52,7 @@ pub trait Desk {
     /// Sends the first bytes of a piece to a slot, at least one of a piece that is not empty, and
     /// answers how many it took.
     fn write(&mut self, slot: Slot, bytes: &[u8]) -> Result<usize, Failed>
-        requires writing { IsWriting slot }
+        requires writing { IsWritingSlot slot }
         requires open { IsTrue (told self.old slot).is_open }
         ensures writes { Writes bytes.now (told self.old slot) (told self.new slot) result }
         ensures others { ChangesOnly slot (told self.old) (told self.new) }

@@ -3,7 +3,7 @@
 ghost use Rattle.std.specs.Prelude.{◌≡◌, ℕ, ◌≤◌, ◌<◌, ◌+◌, ◌-◌, ◌⊎◌, ◌↔◌, [], List, length, min, string_bytes, vec_capacity};
 ghost use Rattle.std.specs.Prelude.{Option, Some, None, false, Contains, IsTrue, IsErr, IsNone, IfOk, OnOk, OnErr, is_ok, MatchOption};
 ghost use Rattle.vx_desk.specs.declared.memory.MemFile.{MemFile};
-ghost use Rattle.vx_desk.specs.Slots.{IsReading, IsWriting};
+ghost use Rattle.vx_desk.specs.Slots.{IsReadingSlot, IsWritingSlot};
 ghost use Rattle.vx_desk.specs.Memory.{ChangesOnlyFile, held, opens_to_read, opens_to_write, reads_from, writes_to, buffer_after};
 ghost use Rattle.vx_desk.specs.Told.{Told, Rose, Opens, Reads, Writes, ChangesOnly, OnlyOutIsOpen};
 ghost use Rattle.vx_desk.specs.Failures.{raised, no_failures};
@@ -341,7 +341,7 @@ impl Desk for MemDesk {
     }
 
     fn read(&mut self, slot: Slot, buf: &mut [u8]) -> Result<usize, Failed>
-        requires reading { IsReading slot }
+        requires reading { IsReadingSlot slot }
         requires open { IsTrue (told_memory self.old slot).is_open }
         ensures reads { Reads buf.new (told_memory self.old slot) (told_memory self.new slot) result }
         ensures others { ChangesOnly slot (told_memory self.old) (told_memory self.new) }
@@ -363,7 +363,7 @@ impl Desk for MemDesk {
     }
 
     fn write(&mut self, slot: Slot, bytes: &[u8]) -> Result<usize, Failed>
-        requires writing { IsWriting slot }
+        requires writing { IsWritingSlot slot }
         requires open { IsTrue (told_memory self.old slot).is_open }
         ensures writes { Writes bytes.now (told_memory self.old slot) (told_memory self.new slot) result }
         ensures others { ChangesOnly slot (told_memory self.old) (told_memory self.new) }

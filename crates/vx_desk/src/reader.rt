@@ -4,7 +4,7 @@ ghost use Rattle.std.specs.Prelude.{◌≡◌, ◌+◌, ◌-◌, ◌<◌, ◌≤
 ghost use Rattle.std.specs.Prelude.{Some, None, Err, true, false, [], ◌∷◌, ◌++◌, IsTrue, IfOk, MatchOption, OnOk, OnErr, ◌↔◌, ◌==◌};
 ghost use Rattle.std.specs.List.{list_any};
 ghost use Rattle.std.specs.Io.KnownBytes.{IsAtEnd};
-ghost use Rattle.vx_desk.specs.Slots.{IsReading};
+ghost use Rattle.vx_desk.specs.Slots.{IsReadingSlot};
 ghost use Rattle.vx_desk.specs.Told.{ChangesOnly, ChangesReads, Counts, Reads};
 ghost use Rattle.vx_desk.specs.Lines.{HasNoLf, AnswersNext, CountsReads, IsLineOrLong};
 ghost use Rattle.vx_desk.specs.Lines.{holds_line, new_reader, to_come, next_number};
@@ -96,7 +96,7 @@ impl LineReader {
     /// none is.
     #[tactic(auto, using(crate::proofs::ComingLemmas::takes_coming, crate::proofs::NextLemmas::ended_holds_none))]
     pub fn next<D: Desk>(&mut self, desk: &mut D) -> Result<Option<Line>, ReadFault>
-        requires reading { IsReading self.old.slot }
+        requires reading { IsReadingSlot self.old.slot }
         requires open { IsTrue (D.told desk.old self.old.slot).is_open }
         ensures answers { AnswersNext self.old self.new (to_come self.old (D.told desk.old self.old.slot))
             (to_come self.new (D.told desk.new self.old.slot)) result }
@@ -121,7 +121,7 @@ impl LineReader {
 
     /// The next line of a reader that may give one.
     fn read_line<D: Desk>(&mut self, desk: &mut D) -> Result<Option<Line>, ReadFault>
-        requires reading { IsReading self.old.slot }
+        requires reading { IsReadingSlot self.old.slot }
         requires open { IsTrue (D.told desk.old self.old.slot).is_open }
         requires ready { self.old.is_ended ≡ false }
         ensures answers { AnswersNext self.old self.new (to_come self.old (D.told desk.old self.old.slot))
@@ -274,7 +274,7 @@ impl LineReader {
     /// Reads behind the waiting bytes. Where no room is left there, the last line and they move to the
     /// front first: so a byte moves twice at most, while its line comes and while it is the last.
     fn refill<D: Desk>(&mut self, desk: &mut D) -> Result<usize, Failed>
-        requires reading { IsReading self.old.slot }
+        requires reading { IsReadingSlot self.old.slot }
         requires open { IsTrue (D.told desk.old self.old.slot).is_open }
         requires within { length self.old.waiting ≤ self.old.limit }
         ensures refills { Refills self.old self.new
@@ -319,7 +319,7 @@ fn read_behind<D: Desk>(
     buffer: &mut [u8],
     place: usize,
 ) -> Result<usize, Failed>
-    requires reading { IsReading slot }
+    requires reading { IsReadingSlot slot }
     requires open { IsTrue (D.told desk.old slot).is_open }
     requires within { place ≤ length buffer.old }
     ensures front { take place buffer.new ≡ take place buffer.old }

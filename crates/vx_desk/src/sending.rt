@@ -1,7 +1,7 @@
 //! Sends all bytes to a slot, however few a write takes.
 
 ghost use Rattle.std.specs.Prelude.{◌≡◌, IsTrue};
-ghost use Rattle.vx_desk.specs.Slots.{IsWriting};
+ghost use Rattle.vx_desk.specs.Slots.{IsWritingSlot};
 ghost use Rattle.vx_desk.specs.Told.{ChangesOnly};
 ghost use Rattle.vx_desk.specs.Sending.{Sends};
 
@@ -19,7 +19,7 @@ pub enum SendFault {
 /// Sends all bytes to a slot, in as many writes as the desk takes for them. The first write that
 /// fails ends it.
 pub fn send<D: Desk>(desk: &mut D, slot: Slot, bytes: &[u8]) -> Result<(), SendFault>
-    requires writing { IsWriting slot }
+    requires writing { IsWritingSlot slot }
     requires open { IsTrue (D.told desk.old slot).is_open }
     ensures sends { Sends bytes.now (D.told desk.old slot) (D.told desk.new slot) result }
     ensures others { ChangesOnly slot (D.told desk.old) (D.told desk.new) }

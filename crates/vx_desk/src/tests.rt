@@ -1,7 +1,7 @@
 //! Lines and pieces over desks in memory, with reads and writes that are short or fail.
 
 ghost use Rattle.std.specs.Prelude.{◌≡◌, ◌≤◌, IsTrue};
-ghost use Rattle.vx_desk.specs.Slots.{IsReading};
+ghost use Rattle.vx_desk.specs.Slots.{IsReadingSlot};
 
 use crate::{Desk, Failed, LF, LineReader, MemDesk, ReadFault, RealDesk, SendFault, Slot, send};
 use std::alloc::Global;
@@ -17,7 +17,7 @@ fn expect_line<D: Desk>(
     number: u64,
     bytes: &[u8],
 )
-    requires reading { IsReading reader.old.slot }
+    requires reading { IsReadingSlot reader.old.slot }
     requires open { IsTrue (D.told desk.old reader.old.slot).is_open }
     ensures slot { reader.new.slot ≡ reader.old.slot }
     ensures open { IsTrue (D.told desk.new reader.old.slot).is_open }

@@ -111,9 +111,9 @@ one_each (said_yes words) = refl
 one_each (said_no word) = refl
 
 -- each answer is a yes or a no
-pub count_both : (answers : List Answer) → count_yes answers + count_no answers ≡ length answers
-count_both [] = refl
-count_both (answer ∷ answers) = let h = count_both answers in let one = one_each answer in omega (arith, h, one)
+pub counts_add_up : (answers : List Answer) → count_yes answers + count_no answers ≡ length answers
+counts_add_up [] = refl
+counts_add_up (answer ∷ answers) = let h = counts_add_up answers in let one = one_each answer in omega (arith, h, one)
 
 answers_more : (number : ℕ) (answers : List Answer) (answer : Answer)
     → answers_from number (answers ++ answer ∷ []) ≡ answers_from number answers ++ answer_text (number + length answers) answer

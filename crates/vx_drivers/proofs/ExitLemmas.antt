@@ -2,7 +2,7 @@
 use Rattle.std.proofs.Common.{◌≡◌, ◌≢◌, ◌∙◌, sym, ap, refl, ℕ, false, true}
 use Rattle.vx_desk.specs.declared.device.Slot.{Slot}
 use Rattle.vx_desk.specs.declared.device.Slot.TheVariants.{Feed, Side, Out, Certs}
-use Rattle.vx_reading.specs.Stops.{stop_calls}
+use Rattle.vx_reading.specs.Stops.{feed_stop_calls}
 use Rattle.vx_reading.specs.declared.stop.FeedCause.{FeedCause}
 use Rattle.vx_reading.specs.declared.stop.FeedStop.{FeedStop}
 use Rattle.vx_reading.specs.declared.stop.FeedStop.TheVariants as stop
@@ -11,7 +11,7 @@ use Rattle.vx_drivers.specs.declared.exit.Exit.TheVariants.{Done, BadFeed, ReadF
 use Rattle.vx_drivers.specs.Exits.{exit_calls, exit_of_stop, is_cut, is_write_fault}
 
 -- the stop of a feed and its exit name the same failed calls
-pub stop_named : (why : FeedStop) → exit_calls (exit_of_stop why) ≡ stop_calls why
+pub stop_named : (why : FeedStop) → exit_calls (exit_of_stop why) ≡ feed_stop_calls why
 stop_named (stop.BadLine line cause) = refl
 stop_named stop.Device = refl
 stop_named stop.NoMemory = refl

@@ -41,7 +41,7 @@ side_read before after reads rest others = record {
     name Certs = ap (λ (t : Told). t.name) (others Certs not_certs)
 
 -- a line was read from the slot of the certificates, and no call failed
-pub line_read : (slot : Slot) (before after : Slot → Told) → slot ≡ Side → (after slot).failed_reads ≡ (before slot).failed_reads → ChangesReads (before slot) (after slot) → ChangesOnly slot before after → IsStep None before after
-line_read slot before after is reads rest others =
+pub side_line_read : (slot : Slot) (before after : Slot → Told) → slot ≡ Side → (after slot).failed_reads ≡ (before slot).failed_reads → ChangesReads (before slot) (after slot) → ChangesOnly slot before after → IsStep None before after
+side_line_read slot before after is reads rest others =
     side_read before after
     (subst (λ s. (after s).failed_reads ≡ (before s).failed_reads) is reads) (subst (λ s. ChangesReads (before s) (after s)) is rest) (subst (λ s. ChangesOnly s before after) is others)

@@ -40,17 +40,17 @@ not_at_end line.TooMany h = cc
 same_bad : (a b : Option BadLine) (m n : BadLine) → a ≡ Some m → a ≡ Some n → m ≡ n
 same_bad a b m n h k = cc
 
-pub same_head : (x y : List ℕ) (xs ys : List (List ℕ)) → x ∷ xs ≡ y ∷ ys → x ≡ y
+pub same_head : {X : Type 0} (x y : X) (xs ys : List X) → x ∷ xs ≡ y ∷ ys → x ≡ y
 same_head x y xs ys h = cc
 
-pub same_tail : (x y : List ℕ) (xs ys : List (List ℕ)) → x ∷ xs ≡ y ∷ ys → xs ≡ ys
+pub same_tail : {X : Type 0} (x y : X) (xs ys : List X) → x ∷ xs ≡ y ∷ ys → xs ≡ ys
 same_tail x y xs ys h = cc
 
 not_empty : (x : List ℕ) (xs ys : List (List ℕ)) → ys ≡ x ∷ xs → ys ≡ [] → ⊥
 not_empty x xs ys h k = cc
 
-pub same_lines : (a b : TextLines) → a.lines ≡ b.lines → a.ending ≡ b.ending → a ≡ b
-same_lines a b p q = λ i. record { lines = p i; ending = q i }
+pub same_text_lines : (a b : TextLines) → a.lines ≡ b.lines → a.ending ≡ b.ending → a ≡ b
+same_text_lines a b p q = λ i. record { lines = p i; ending = q i }
 
 not_done : (count : ℕ) → 1 ≤ count → (count == 0) ≡ false
 not_done count some = grind (arith, nat_tests)
@@ -171,7 +171,7 @@ module _ {C : Type 0} (rules : Rules C)
       → xs ++ more.lines ≡ ys ++ others.lines → more.ending ≡ others.ending → EndsWithRest rules feed a more exit → EndsWithRest rules feed b others other → (a ≡ b) × (exit ≡ other)
   same_end first a b [] [] more others exit other h k lines ending ends end =
       let stands : a ≡ b = h ∙ sym k in
-      let rests : more ≡ others = same_lines more others lines ending in (
+      let rests : more ≡ others = same_text_lines more others lines ending in (
         stands,
         ends_one b others exit other
             (ends_as b others exit (subst (λ (s : Stand). EndsWithRest rules feed s others exit) stands (subst (λ (t : TextLines). EndsWithRest rules feed a t exit) rests ends)))

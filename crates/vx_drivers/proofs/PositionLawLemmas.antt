@@ -11,10 +11,10 @@ use Rattle.vx_drivers.specs.declared.exit.PositionCause.{PositionCause}
 use Rattle.vx_drivers.specs.declared.exit.PositionCause.TheVariants as cause
 use Rattle.vx_drivers.specs.Along.{Along}
 use Rattle.vx_drivers.specs.PositionLaws.{PositionRunIsOne}
-use Rattle.vx_drivers.specs.PositionRun.{EndsPositions, NextIsBad, PositionRules, RunsUnlessBad, Settles, SettlesOpening, if_done, settled_text}
+use Rattle.vx_drivers.specs.PositionRun.{EndsPositions, NextIsBad, PositionRules, RunsUnlessBad, ComesToOneMore, SettlesOpening, if_done, settled_text}
 use Rattle.vx_drivers.specs.Sending.{Text}
 use Rattle.vx_drivers.proofs.CauseLemmas as bad_lines
-use Rattle.vx_drivers.proofs.OneRun.{same_head, same_lines, same_tail}
+use Rattle.vx_drivers.proofs.OneRun.{same_head, same_text_lines, same_tail}
 
 -- ---- rests are told apart
 
@@ -41,7 +41,7 @@ module _ {A I : Type 0} (rules : PositionRules A I)
   item_or_fault : (x : I) (y : PositionFault) (r : Result I PositionFault) → r ≡ Ok x → r ≡ Err y → ⊥
   item_or_fault x y r h k = cc
 
-  settles_one : (answer : A) (old : List I) (text : List ℕ) (a b : List I) → Settles rules answer old text a → Settles rules answer old text b → a ≡ b
+  settles_one : (answer : A) (old : List I) (text : List ℕ) (a b : List I) → ComesToOneMore rules answer old text a → ComesToOneMore rules answer old text b → a ≡ b
   settles_one answer old text a b (x, h, p) (y, k, q) =
       p ∙ ap (λ z. old ++ z ∷ []) (same_item x y (Ok y) (comes_to_one answer text (Ok y) (Ok x) k h) refl) ∙ sym q
 
@@ -120,16 +120,16 @@ module _ {A I : Type 0} (rules : PositionRules A I)
 
   -- a run does not end before a line that is settled
   ends_no_earlier : (answer : A) (items : List I) (rest : TextLines) (exit : Exit) (text : List ℕ) (texts : List (List ℕ)) (old next : List I)
-      → rest.lines ≡ text ∷ texts → Settles rules answer old text next → EndsAs answer items rest exit → ⊥
+      → rest.lines ≡ text ∷ texts → ComesToOneMore rules answer old text next → EndsAs answer items rest exit → ⊥
   ends_no_earlier answer items rest exit text texts old next lines (item, good, is) (inl h) = no_lines at_end rest text texts h.0 lines
   ends_no_earlier answer items rest exit text texts old next lines (item, good, is) (inr h) = good_not_bad answer rest text texts item h.why lines good h.bad
 
-  same_end : (answer : A) (first a b : List I) (xs ys : List (List ℕ)) (more others : TextLines) (exit other : Exit) → Along (Settles rules answer) first xs a
-      → Along (Settles rules answer) first ys b → xs ++ more.lines ≡ ys ++ others.lines → more.ending ≡ others.ending
+  same_end : (answer : A) (first a b : List I) (xs ys : List (List ℕ)) (more others : TextLines) (exit other : Exit) → Along (ComesToOneMore rules answer) first xs a
+      → Along (ComesToOneMore rules answer) first ys b → xs ++ more.lines ≡ ys ++ others.lines → more.ending ≡ others.ending
       → EndsPositions rules answer a more exit → EndsPositions rules answer b others other → (a ≡ b) × (exit ≡ other)
   same_end answer first a b [] [] more others exit other h k lines ending ends end =
       let items : a ≡ b = h ∙ sym k in
-      let rests : more ≡ others = same_lines more others lines ending in (
+      let rests : more ≡ others = same_text_lines more others lines ending in (
         items,
         ends_one answer b others exit other
             (ends_as answer b others exit (subst (λ (l : List I). EndsPositions rules answer l others exit) items (subst (λ (t : TextLines). EndsPositions rules answer a t exit) rests ends)))
@@ -141,8 +141,8 @@ module _ {A I : Type 0} (rules : PositionRules A I)
       absurd (ends_no_earlier answer b others other x (xs ++ more.lines) first next (sym lines) step (ends_as answer b others other end))
   same_end answer first a b (x ∷ xs) (y ∷ ys) more others exit other (s, step, h) (t, follows, k) lines ending ends end =
       let heads : x ≡ y = same_head x y (xs ++ more.lines) (ys ++ others.lines) lines in
-      let next : s ≡ t = settles_one answer first y s t (subst (λ (l : List ℕ). Settles rules answer first l s) heads step) follows in
-      same_end answer t a b xs ys more others exit other (subst (λ (u : List I). Along (Settles rules answer) u xs a) next h) k
+      let next : s ≡ t = settles_one answer first y s t (subst (λ (l : List ℕ). ComesToOneMore rules answer first l s) heads step) follows in
+      same_end answer t a b xs ys more others exit other (subst (λ (u : List I). Along (ComesToOneMore rules answer) u xs a) next h) k
       (same_tail x y (xs ++ more.lines) (ys ++ others.lines) lines) ending ends end
 
   -- ---- the whole
@@ -150,7 +150,7 @@ module _ {A I : Type 0} (rules : PositionRules A I)
   -- two runs over the same answer
   on_answer : (positions : TextLines) (answer : A) (xs ys : List I) (more others : TextLines) (exit other : Exit)
       → (lines : List (List ℕ)) → (texts : List (List ℕ)) → positions ≡ lines_then lines more → positions ≡ lines_then texts others
-      → Along (Settles rules answer) [] lines xs → Along (Settles rules answer) [] texts ys
+      → Along (ComesToOneMore rules answer) [] lines xs → Along (ComesToOneMore rules answer) [] texts ys
       → EndsPositions rules answer xs more exit → EndsPositions rules answer ys others other → (xs ≡ ys) × (exit ≡ other)
   on_answer positions answer xs ys more others exit other lines texts first second h k ends end =
       let both = sym first ∙ second in
@@ -162,7 +162,7 @@ module _ {A I : Type 0} (rules : PositionRules A I)
   opening_one events positions exit other out certs out_other certs_other h k =
       let answers : h.answer ≡ k.answer = opens_one events h.answer k.answer h.is_opening k.is_opening in
       let same = on_answer positions k.answer h.items k.items h.rest k.rest exit other h.before.lines k.before.lines h.before.are_first k.before.are_first
-      (subst (λ (a : A). Along (Settles rules a) [] h.before.lines h.items) answers h.before.steps) k.before.steps
+      (subst (λ (a : A). Along (ComesToOneMore rules a) [] h.before.lines h.items) answers h.before.steps) k.before.steps
       (subst (λ (a : A). EndsPositions rules a h.items h.rest exit) answers h.ends) k.ends in (
         same.1,
         h.out_is ∙ ap (λ (a : A). settled_text rules a h.items ++ if_done exit (rules.last_lines a h.items)) answers

@@ -13,7 +13,7 @@ use Rattle.vx_blocks.specs.declared.split_lines.Rest.TheVariants.{More, End, Uns
 use Rattle.vx_blocks.specs.declared.stop.ReadStop.{ReadStop}
 use Rattle.vx_blocks.specs.declared.stop.ReadStop.TheVariants as stop
 use Rattle.vx_blocks.specs.SplitLines.{AreAhead, IsFresh, IsSameText, IsSplit, is_in_hand, lines_coming}
-use Rattle.vx_blocks.specs.Given.{HasGiven, IsCutAfter, KeepsGiven, LosesNothing, TakesLine, WereRead, still_to_come}
+use Rattle.vx_blocks.specs.Given.{HasGiven, IsCutAfter, KeepsGiven, LosesNothing, TakesNextLine, WereRead, still_to_come}
 use Rattle.vx_blocks.specs.Stops.{OnFault, OnOkOrFault, stop_calls}
 use Rattle.vx_blocks.proofs.ComingLemmas.{coming_kept}
 use Rattle.vx_blocks.proofs.FaultLemmas.{cut_after}
@@ -87,7 +87,7 @@ none_were_read held now same = record { more = []; held_is = same ∙ sym (prepe
 
 -- the positions behind it
 pub next_lines : (p q : SplitLines) (fields : List (List ℕ)) → IsPositionLines p → q ≡ record p { taken = p.taken + 1 }
-    → TakesLine fields p q → IsPositionLines q
+    → TakesNextLine fields p q → IsPositionLines q
 next_lines p q fields is next takes = record {
   slot = ap (λ (r : SplitLines). r.lines.slot) next ∙ is.slot;
   limit = ap (λ (r : SplitLines). r.lines.limit) next ∙ is.limit;
@@ -95,14 +95,14 @@ next_lines p q fields is next takes = record {
 }
 
 -- it is the first of the lines to come
-pub next_first : (p q : SplitLines) (fields : List (List ℕ)) (before after : Slot → Told) (takes : TakesLine fields p q) → q.lines.slot ≡ Side
+pub next_first : (p q : SplitLines) (fields : List (List ℕ)) (before after : Slot → Told) (takes : TakesNextLine fields p q) → q.lines.slot ≡ Side
     → after Side ≡ before Side → lines_coming p before ≡ option_map (line_then takes.line) (lines_coming q after)
 next_first p q fields before after takes slot same =
     takes.coming before ∙ ap (option_map (line_then takes.line)) (sym (coming_kept q before after (side_kept q before after slot same)))
 
 -- and it is given
 pub next_given : (lines : List (List ℕ)) (held : Option (List ℕ)) (p q : SplitLines) (fields : List (List ℕ)) (before after : Slot → Told)
-    (takes : TakesLine fields p q) → q.lines.slot ≡ Side → after Side ≡ before Side → HasGiven lines held p before
+    (takes : TakesNextLine fields p q) → q.lines.slot ≡ Side → after Side ≡ before Side → HasGiven lines held p before
     → HasGiven (lines ++ takes.line ∷ []) held q after
 next_given lines held p q fields before after takes slot same given =
     given_kept (lines ++ takes.line ∷ []) held q before after (side_kept q before after slot same) (takes.given lines held before given)

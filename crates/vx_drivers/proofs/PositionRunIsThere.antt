@@ -9,7 +9,7 @@ use Rattle.vx_drivers.specs.declared.exit.Exit.TheVariants.{Done, BadFeed, BadPo
 use Rattle.vx_drivers.specs.declared.exit.PositionCause.TheVariants as cause
 use Rattle.vx_drivers.specs.Along.{Along}
 use Rattle.vx_drivers.specs.PositionLaws.{PositionRunIsThere, SettlesEach}
-use Rattle.vx_drivers.specs.PositionRun.{EndsPositions, PositionRules, RunsUnlessBad, Settles, if_done, settled_text}
+use Rattle.vx_drivers.specs.PositionRun.{EndsPositions, PositionRules, RunsUnlessBad, ComesToOneMore, if_done, settled_text}
 use Rattle.vx_drivers.specs.Sending.{Text}
 use Rattle.vx_drivers.proofs.CauseLemmas.{cause_of}
 
@@ -28,7 +28,7 @@ module _ {A I : Type 0} (rules : PositionRules A I) (answer : A)
     firsts : List (List ℕ)
     rest : TextLines
     are_first : positions ≡ lines_then firsts rest
-    steps : Along (Settles rules answer) items firsts last
+    steps : Along (ComesToOneMore rules answer) items firsts last
     exit : Exit
     ends : EndsPositions rules answer last rest exit
 

@@ -46,7 +46,7 @@ use Rattle.vx_drivers.specs.Exits.{exit_of_stop, is_cut, is_write_fault}
 use Rattle.vx_drivers.specs.Held.{Held, held_by}
 use Rattle.vx_drivers.specs.Sending.{CutsOff, Sent, Text}
 use Rattle.vx_drivers.proofs.AlongLemmas.{along_more}
-use Rattle.vx_drivers.proofs.CertificateLemmas.{count_both, feed_failed, out_of_memory, text_more}
+use Rattle.vx_drivers.proofs.CertificateLemmas.{counts_add_up, feed_failed, out_of_memory, text_more}
 use Rattle.vx_drivers.proofs.ExitLemmas.{write_cuts, write_is_fault}
 use Rattle.vx_drivers.proofs.SendingLemmas.{sent_more, sent_none, sent_still}
 
@@ -105,9 +105,9 @@ text_push (first ∷ lines) line =
     ap (λ t. first ++ line_feed ∷ t) (text_push lines line) ∙ sym (append_assoc first (line_feed ∷ text_of lines) (line ++ line_feed ∷ []))
 
 -- these lines were read, and what waits for the reader
-were_read : (lines : List (List ℕ)) (held : Option (List ℕ)) (reader : ReaderState) (now : Told) → held ≡ prepend_known (text_of lines)
+lines_were_read : (lines : List (List ℕ)) (held : Option (List ℕ)) (reader : ReaderState) (now : Told) → held ≡ prepend_known (text_of lines)
     (to_come reader now) → WereRead lines held now
-were_read lines held reader now is = record { more = reader.waiting; held_is = is ∙ sym (prepend_known-append (text_of lines) reader.waiting now.left) }
+lines_were_read lines held reader now is = record { more = reader.waiting; held_is = is ∙ sym (prepend_known-append (text_of lines) reader.waiting now.left) }
 
 -- one line more was taken of what is to come
 line_taken : (lines : List (List ℕ)) (line : List ℕ) (held come rest : Option (List ℕ)) → held ≡ prepend_known (text_of lines) come
@@ -449,7 +449,7 @@ module _ {C : Type 0} (rules : Rules C) where
     line_ended run reader next first between now rest new text exit way out_same side_same taken events_are_read is (inr h) =
         answer_cut run reader first between now rest new text exit way out_same
         (lines_still (way.lines ++ text ∷ []) held.side (between Side) (now Side) side_same
-        (were_read (way.lines ++ text ∷ []) held.side next (between Side) (line_taken way.lines text held.side (to_come reader (first Side)) (to_come next (between Side)) way.read taken)))
+        (lines_were_read (way.lines ++ text ∷ []) held.side next (between Side) (line_taken way.lines text held.side (to_come reader (first Side)) (to_come next (between Side)) way.read taken)))
         is h
 
     -- a read of the lines failed, with no line in hand
@@ -462,7 +462,7 @@ module _ {C : Type 0} (rules : Rules C) where
     cut_at_lines run reader next first now rest fault way side feed_same out_same limit answers is none =
         let gives = takes_none_more reader next first now reader.slot fault side answers is in
         let read : held.side ≡ prepend_known (text_of way.lines) (to_come next (now Side)) = way.read ∙ ap (prepend_known (text_of way.lines)) (sym gives.0) in
-        cut_short run reader first now rest (ReadFault Side) way out_same refl (were_read way.lines held.side next (now Side) read)
+        cut_short run reader first now rest (ReadFault Side) way out_same refl (lines_were_read way.lines held.side next (now Side) read)
         (events_still way.between.events held.feed (first Feed) (now Feed) feed_same (events_read held.feed way.between.events run.feed first way.between.at.read))
         (λ same. cut_behind_lines way.lines held.side next (now Side) limit gives.1 (none (ap the_fault is)) read)
 
@@ -474,7 +474,7 @@ module _ {C : Type 0} (rules : Rules C) where
         → EventsRead through.2.between.events held.feed (now Feed) → IsCutElsewhere exit → HasEnded rules held feed certs before now exit
     cut_at_end run first now exit (reader, rest, way, none) same side_same events_are_read elsewhere =
         cut_short run reader first now rest exit way same elsewhere.cut
-        (lines_still way.lines held.side (first Side) (now Side) side_same (were_read way.lines held.side reader (first Side) way.read)) events_are_read (λ read. absurd (elsewhere.not_lines read))
+        (lines_still way.lines held.side (first Side) (now Side) side_same (lines_were_read way.lines held.side reader (first Side) way.read)) events_are_read (λ read. absurd (elsewhere.not_lines read))
 
     -- the feed ends the run
     pub feed_ends : (run : CheckRun B) (reader : FeedReader B) (first now : Slot → Told) (why : FeedStop)
@@ -548,7 +548,7 @@ module _ {C : Type 0} (rules : Rules C) where
             stand = way.stand;
             lines = way.lines;
             steps = way.steps;
-            lines_read = lines_still way.lines held.side (first Side) (now Side) side_same (were_read way.lines held.side lines (first Side) way.read);
+            lines_read = lines_still way.lines held.side (first Side) (now Side) side_same (lines_were_read way.lines held.side lines (first Side) way.read);
             events = way.between.events;
             events_read = events_still way.between.events held.feed (between Feed) (now Feed) feed_same events_are_read;
             read_to = way.between.read_to;
@@ -682,9 +682,9 @@ pub allowed_ended : (m : ℕ) (ending : Ending) (before : Option TextLines) → 
 allowed_ended m ending None h = tt
 allowed_ended m ending (Some r) h = ap (at_most m) h ∙ at_most_ended m ending
 
-pub coming_kept : (slot : Slot) (reader : ReaderState) (before after : Slot → Told) → reader.slot ≡ slot → after slot ≡ before slot
+pub reader_coming_kept : (slot : Slot) (reader : ReaderState) (before after : Slot → Told) → reader.slot ≡ slot → after slot ≡ before slot
     → coming reader after ≡ coming reader before
-coming_kept slot reader before after is same =
+reader_coming_kept slot reader before after is same =
     let told : after reader.slot ≡ before reader.slot = subst (λ (s : Slot). after s ≡ before s) (sym is) same in
     ap (λ (t : Told). option_map (lines_of reader.limit) (to_come reader t)) told
 
@@ -695,7 +695,7 @@ pub allowed_step : (count more : ℕ) (text : List ℕ) (old new : ReaderState) 
     → allowed count old before ≡ option_map (line_then text) (allowed more new now)
 allowed_step count more text old new before between now taken is same size few =
     allowed_line (CERT_LINES_MAX - count) (CERT_LINES_MAX - more) text (coming old before) (coming new between) taken (omega (arith, size, few))
-    ∙ ap (λ (c : Option TextLines). option_map (line_then text) (option_map (at_most (CERT_LINES_MAX - more)) c)) (sym (coming_kept Side new between now is same))
+    ∙ ap (λ (c : Option TextLines). option_map (line_then text) (option_map (at_most (CERT_LINES_MAX - more)) c)) (sym (reader_coming_kept Side new between now is same))
 
 pub takes_is : (before after : Option TextLines) (reader : ReaderState) (found : Option Line) (line : Line) → TakesLine before after reader (Ok found)
     → found ≡ Some line
@@ -741,7 +741,7 @@ pub cert_bad_at : {C B : Type 0} (rules : Rules C) (StandsFor : B → List Event
     → IfSome rest (λ r. r ≡ ended (ending_for why))
     → HasEnded rules held feed certs before now exit
 cert_bad_at rules StandsFor held feed certs before run reader first now rest exit why way same is bad =
-    let both = count_both way.stand.answers in
+    let both = counts_add_up way.stand.answers in
     let agreed : run.yes ≡ count_yes way.stand.answers = way.between.yes in
     let refused : run.no ≡ count_no way.stand.answers = way.between.no in
     subst (λ e. HasEnded rules held feed certs before now e) (sym is)
@@ -751,7 +751,7 @@ cert_bad_at rules StandsFor held feed certs before run reader first now rest exi
 pub end_is : (answers : List Answer) (agreed refused : ℕ) → agreed ≡ count_yes answers → refused ≡ count_no answers
     → end_line (agreed + refused) agreed refused ≡ end_text answers
 end_is answers agreed refused yes_is no_is =
-    let both = count_both answers in
+    let both = counts_add_up answers in
     let size : agreed + refused ≡ length answers = omega (arith, both, yes_is, no_is) in
     ap (λ k. end_line k agreed refused) size ∙ ap (λ k. end_line (length answers) k refused) yes_is ∙ ap (λ k. end_line (length answers) (count_yes answers) k) no_is
 

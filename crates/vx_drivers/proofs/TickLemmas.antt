@@ -41,8 +41,8 @@ text_last f xs a = texts_more f xs (a ∷ []) ∙ ap (λ t. concat (map f xs) ++
 count_none : {A : Type 0} (f : A → ℕ) (xs : List A) → sum_by f (xs ++ []) ≡ sum_by f xs
 count_none f xs = ap (sum_by f) (append-nil xs)
 
-count_one : {A : Type 0} (f : A → ℕ) (xs : List A) (a : A) → sum_by f (xs ++ a ∷ []) ≡ sum_by f xs + f a
-count_one f xs a = sum_by-append f xs (a ∷ []) ∙ ap (λ n. sum_by f xs + n) (let only : 0 + f a ≡ f a = omega arith in only)
+sum_of_one_more : {A : Type 0} (f : A → ℕ) (xs : List A) (a : A) → sum_by f (xs ++ a ∷ []) ≡ sum_by f xs + f a
+sum_of_one_more f xs a = sum_by-append f xs (a ∷ []) ∙ ap (λ n. sum_by f xs + n) (let only : 0 + f a ≡ f a = omega arith in only)
 
 -- ---- a run between events
 
@@ -128,13 +128,13 @@ module _ {A T : Type 0} (rules : TickRules A) (StandsFor : T → List Event → 
       record {
         published = p ∙ ap (λ n. n + tally.published) h.published
             ∙ ap (λ (t : Tally). published_count rules stand.answers + t.published) is
-            ∙ sym (count_one (λ a. (rules.tally a).published) stand.answers answer);
+            ∙ sym (sum_of_one_more (λ a. (rules.tally a).published) stand.answers answer);
         undecided = u ∙ ap (λ n. n + tally.undecided) h.undecided
             ∙ ap (λ (t : Tally). undecided_count rules stand.answers + t.undecided) is
-            ∙ sym (count_one (λ a. (rules.tally a).undecided) stand.answers answer);
+            ∙ sym (sum_of_one_more (λ a. (rules.tally a).undecided) stand.answers answer);
         refused = r ∙ ap (λ n. n + tally.refused) h.refused
             ∙ ap (λ (t : Tally). refused_count rules stand.answers + t.refused) is
-            ∙ sym (count_one (λ a. (rules.tally a).refused) stand.answers answer);
+            ∙ sym (sum_of_one_more (λ a. (rules.tally a).refused) stand.answers answer);
         few = omega (arith, size, few, more);
       }
 

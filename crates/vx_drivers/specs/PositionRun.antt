@@ -38,8 +38,8 @@ positions_of text = at_most POSITION_LINES_MAX (lines_of POSITION_LINE_LEN_MAX t
 -- ---- one step
 
 -- a line comes to one thing more, behind those of the lines before it
-abbrev pub Settles : {A I : Type 0} → PositionRules A I → A → List I → List ℕ → List I → Type 0
-Settles {A} {I} rules answer old text new =
+abbrev pub ComesToOneMore : {A I : Type 0} → PositionRules A I → A → List I → List ℕ → List I → Type 0
+ComesToOneMore {A} {I} rules answer old text new =
     (item : I) × rules.ComesTo answer text (Ok item) × (new ≡ old ++ item ∷ [])
 
 -- the first lines of positions have come to these items, one after another, and this is the rest
@@ -47,7 +47,7 @@ pub record SettledBefore {A I : Type 0} (rules : PositionRules A I) (answer : A)
     (rest : TextLines) : Type 0 where
   pub lines : List (List ℕ)
   pub are_first : positions ≡ lines_then lines rest
-  pub steps : Along (Settles rules answer) [] lines items
+  pub steps : Along (ComesToOneMore rules answer) [] lines items
 
 -- ---- the texts
 

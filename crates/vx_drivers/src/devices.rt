@@ -1,7 +1,7 @@
 //! The calls of a desk that a run makes itself, each with the exit that its failure is.
 
 ghost use Rattle.std.specs.Prelude.{◌≡◌, IsTrue, OnErr, OnOk, false};
-ghost use Rattle.vx_desk.specs.Slots.{IsWriting};
+ghost use Rattle.vx_desk.specs.Slots.{IsWritingSlot};
 ghost use Rattle.vx_desk.specs.Told.{ChangesOnly, IsOpened, SameContent};
 ghost use Rattle.vx_desk.specs.Calls.{Failures, IsStep};
 ghost use Rattle.vx_drivers.specs.Exits.{calls_in};
@@ -26,7 +26,7 @@ pub fn open_slot<D: Desk>(desk: &mut D, slot: Slot, name: &str) -> Result<(), Ex
 
 /// Sends a whole line to a slot that is written.
 pub fn send_line<D: Desk>(desk: &mut D, slot: Slot, line: &[u8]) -> Result<(), Exit>
-    requires writing { IsWriting slot }
+    requires writing { IsWritingSlot slot }
     requires open { IsTrue (D.told desk.old slot).is_open }
     ensures sends { SendsOr slot line.now (D.told desk.old slot) (D.told desk.new slot) result }
     ensures step { IsStep (calls_in result) (D.told desk.old) (D.told desk.new) }

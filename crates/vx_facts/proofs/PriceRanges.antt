@@ -9,7 +9,7 @@ use Rattle.vx_symbol.specs.Rows.{IsLawfulPrice, IsRateInRange}
 use Rattle.vx_feed.specs.declared.events.Event.{Event}
 use Rattle.vx_feed.specs.declared.events.Event.TheVariants as event
 use Rattle.vx_feed.specs.Same.{is_same_series}
-use Rattle.vx_feed.specs.Ranges.{IsInRange, IsPrice}
+use Rattle.vx_feed.specs.Ranges.{IsEventInRange, IsPrice}
 use Rattle.vx_feed.specs.Said.{first_said, last_said}
 use Rattle.vx_feed.specs.Standing.{BidAsk, quote_of, rate_of, trade_of, can_stand, if_standing, since_listed, before_opening, standing_quote, standing_rate, opening_trade}
 use Rattle.vx_feed.specs.Listed.{quoted_price, standing_price}
@@ -35,7 +35,7 @@ pub record IsQuoteInRange (quote : BidAsk) : Type 0 where
   pub bid_is : IsPrice quote.bid
   pub ask_is : IsPrice quote.ask
 
-said_quote : (s : Symbol) (e : Event) (q : BidAsk) → IsInRange e → quote_of s e ≡ Some q → IsQuoteInRange q
+said_quote : (s : Symbol) (e : Event) (q : BidAsk) → IsEventInRange e → quote_of s e ≡ Some q → IsQuoteInRange q
 said_quote s (event.Quote time t bid ask) q range h =
     subst IsQuoteInRange (chosen (is_same_series s t) (record { bid = bid; ask = ask }) q h) (record { bid_is = range.2; ask_is = range.3 })
 said_quote s (event.Header day) q range h = absurd cc
@@ -71,7 +71,7 @@ standing_lawful events s range =
 
 -- ---- opening trades
 
-said_trade : (s : Symbol) (e : Event) (price : ℕ) → IsInRange e → trade_of s e ≡ Some price → IsPrice price
+said_trade : (s : Symbol) (e : Event) (price : ℕ) → IsEventInRange e → trade_of s e ≡ Some price → IsPrice price
 said_trade s (event.Trade time t price) p range h = subst IsPrice (chosen (is_same_series s t) price p h) range.3
 said_trade s (event.Header day) p range h = absurd cc
 said_trade s (event.Expiry y) p range h = absurd cc
@@ -83,19 +83,19 @@ said_trade s (event.Opening time) p range h = absurd cc
 said_trade s (event.End count) p range h = absurd cc
 
 -- what is said first is said by one of the events
-first_in : {A : Type 0} (says : Event → Option A) (events : List Event) (r : A) → first_said says events ≡ Some r → (e : Event) × In events e × (says e ≡ Some r)
-first_in says [] r h = absurd cc
-first_in says (e ∷ events) r h =
+first_said_in : {A : Type 0} (says : Event → Option A) (events : List Event) (r : A) → first_said says events ≡ Some r → (e : Event) × In events e × (says e ≡ Some r)
+first_said_in says [] r h = absurd cc
+first_said_in says (e ∷ events) r h =
     elim (or_either (says e) (first_said says events) r h) [
       | inl here ↦ (e, inl refl, here)
-      | inr later ↦ let found = first_in says events r later in (found.0, inr found.1, found.2)
+      | inr later ↦ let found = first_said_in says events r later in (found.0, inr found.1, found.2)
     ]
 
 traded_lawful : (s : Symbol) (events : List Event) (o : Option ℕ) (quoted : Price) → AllInRange events → first_said (trade_of s) events ≡ o
     → IsLawfulPrice quoted → IsLawfulPrice (traded_price o quoted)
 traded_lawful s events None quoted range h lawful = lawful
 traded_lawful s events (Some price) quoted range h lawful =
-    let found = first_in (trade_of s) events price h in
+    let found = first_said_in (trade_of s) events price h in
     let fits = said_trade s found.0 price (range found.0 found.1) found.2 in
     record { in_range = omega arith; absent = λ e. absurd cc }
 

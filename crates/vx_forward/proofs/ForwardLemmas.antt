@@ -8,7 +8,7 @@ use Rattle.vx_num.specs.Fraction.{Fraction, whole, ◌*ᶠ◌}
 use Rattle.vx_num.specs.Quotient.{IsFloor, IsCeiling}
 use Rattle.vx_num.proofs.Whole.{mul_mono, mul_mono_left, mul_anti_left, mul_nonneg, neg_mul}
 use Rattle.vx_interval.specs.Rounding.{floor_of, ceiling_of}
-use Rattle.vx_interval.specs.Ends.{Ends, IsScale, IsInRange, unit, width, exact_ends, add_ends, scale_ends}
+use Rattle.vx_interval.specs.Ends.{Ends, IsScale, IsIntervalInRange, unit, width, exact_ends, add_ends, scale_ends}
 use Rattle.vx_interval.specs.Membership.{IsMember}
 use Rattle.vx_interval.proofs.EndsLemmas.{unit_positive}
 use Rattle.vx_interval.proofs.Enclosures.{add_encloses, exact_encloses, scale_encloses}
@@ -59,7 +59,7 @@ spread_within e (negsuc k) h p q =
     let al = a.low in let ah = a.high in let bl = b.low in let bh = b.high in
     record { low = omega (arith, ints); high = omega (arith, ints) }
 
-pub spread_in_range : (P : ℕ) (e : Ends) (k : ℤ) → IsScale P → nat_abs k ≤ 50000000 → pos 0 ≤ℤ e.lo → e.lo ≤ℤ e.hi → e.hi ≤ℤ (pos 2 *ℤ unit P) → IsInRange (scale_ends e k)
+pub spread_in_range : (P : ℕ) (e : Ends) (k : ℤ) → IsScale P → nat_abs k ≤ 50000000 → pos 0 ≤ℤ e.lo → e.lo ≤ℤ e.hi → e.hi ≤ℤ (pos 2 *ℤ unit P) → IsIntervalInRange (scale_ends e k)
 spread_in_range P e k s h p q r =
     let w = spread_within e k h p q in
     let l = w.low in let t = w.high in
@@ -74,7 +74,7 @@ strike_within P strike h =
     (mul_nonneg (pos strike) (unit P) (omega (arith, ints)) (omega (arith, ints)), mul_mono (pos strike) (pos 50000000) (unit P) (omega (arith, ints)) (omega (arith, ints)))
 
 -- the interval of a strike alone is in range
-pub exact_strike_in_range : (P : ℕ) (strike : ℕ) → IsScale P → strike ≤ 50000000 → IsInRange (exact_ends P (pos strike))
+pub exact_strike_in_range : (P : ℕ) (strike : ℕ) → IsScale P → strike ≤ 50000000 → IsIntervalInRange (exact_ends P (pos strike))
 exact_strike_in_range P strike s h =
     let w = strike_within P strike h in
     let u = unit_at_most P s in
@@ -82,7 +82,7 @@ exact_strike_in_range P strike s h =
 
 -- ---- the forward
 
-pub sum_in_range : (P : ℕ) (pair : Pair) (e : Ends) → IsScale P → pair.strike ≤ 50000000 → nat_abs pair.d ≤ 10000000 → pos 0 ≤ℤ e.lo → e.lo ≤ℤ e.hi → e.hi ≤ℤ (pos 2 *ℤ unit P) → IsInRange (forward_interval P pair e)
+pub sum_in_range : (P : ℕ) (pair : Pair) (e : Ends) → IsScale P → pair.strike ≤ 50000000 → nat_abs pair.d ≤ 10000000 → pos 0 ≤ℤ e.lo → e.lo ≤ℤ e.hi → e.hi ≤ℤ (pos 2 *ℤ unit P) → IsIntervalInRange (forward_interval P pair e)
 sum_in_range P pair e s h k p q r =
     let w = spread_within e (pos 5 *ℤ pair.d) (five_is_small pair.d k) p q in
     let l = w.low in let t = w.high in

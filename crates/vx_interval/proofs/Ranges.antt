@@ -10,7 +10,7 @@ use Rattle.vx_num.specs.Quotient.{IsFloor, IsCeiling}
 use Rattle.vx_num.proofs.Whole.{mul_comm, mul_assoc, mul_mono, mul_mono_left, mul_anti_left, mul_cancel}
 use Rattle.vx_num.proofs.Quotients.{floor_within, ceiling_within, floor_within_dividend, ceiling_within_dividend, floor_exact, ceiling_exact, floor_scaled, ceiling_scaled}
 use Rattle.vx_interval.specs.Rounding.{floor_of, ceiling_of}
-use Rattle.vx_interval.specs.Ends.{Ends, IsScale, IsInRange, unit, magnitude, least_of_four, greatest_of_four, least_product, greatest_product, least_square, greatest_square, rounded_ends, scale_ends, rescale_ends}
+use Rattle.vx_interval.specs.Ends.{Ends, IsScale, IsIntervalInRange, unit, magnitude, least_of_four, greatest_of_four, least_product, greatest_product, least_square, greatest_square, rounded_ends, scale_ends, rescale_ends}
 use Rattle.vx_interval.proofs.EndsLemmas.{same_ends, unit_positive}
 use Rattle.vx_interval.proofs.RoundingLemmas.{floor_of_is, ceiling_of_is, floor_found, ceiling_found}
 use Rattle.vx_interval.proofs.Enclosures.{least_at_most, greatest_at_least, least_above, greatest_below}
@@ -62,14 +62,14 @@ rounded_ordered a b d h l =
     mul_cancel (floor_of a d) (ceiling_of b d) d h (omega (arith, ints))
 
 -- quotients of dividends in range are in range
-pub rounded_in_range : (a b d : ℤ) → pos 0 <ℤ d → a ≤ℤ b → neg_ℤ (pos (2 ^ 110)) ≤ℤ a → b ≤ℤ pos (2 ^ 110) → IsInRange (rounded_ends a b d)
+pub rounded_in_range : (a b d : ℤ) → pos 0 <ℤ d → a ≤ℤ b → neg_ℤ (pos (2 ^ 110)) ≤ℤ a → b ≤ℤ pos (2 ^ 110) → IsIntervalInRange (rounded_ends a b d)
 rounded_in_range a b d h l low high = record {
   low = (floor_within_dividend a d (floor_of a d) (pos (2 ^ 110)) h low (omega (arith, ints)) (floor_of_is a d h)).0;
   high = (ceiling_within_dividend b d (ceiling_of b d) (pos (2 ^ 110)) h (omega (arith, ints)) high (ceiling_of_is b d h)).1;
 }
 
 -- quotients by a unit of dividends within 2^126 are in range
-pub rounded_over_unit : (a b d : ℤ) → pos (2 ^ 40) ≤ℤ d → a ≤ℤ b → neg_ℤ (pos (2 ^ 126)) ≤ℤ a → b ≤ℤ pos (2 ^ 126) → IsInRange (rounded_ends a b d)
+pub rounded_over_unit : (a b d : ℤ) → pos (2 ^ 40) ≤ℤ d → a ≤ℤ b → neg_ℤ (pos (2 ^ 126)) ≤ℤ a → b ≤ℤ pos (2 ^ 126) → IsIntervalInRange (rounded_ends a b d)
 rounded_over_unit a b d h l low high =
     let p : pos 0 <ℤ d = omega (arith, ints) in
     let grown : (pos (2 ^ 110) *ℤ pos (2 ^ 40)) ≤ℤ (pos (2 ^ 110) *ℤ d) = mul_mono_left (pos (2 ^ 40)) d (pos (2 ^ 110)) (omega (arith, ints)) h in
@@ -165,17 +165,17 @@ scale_ends_nonneg x (pos k) h = refl
 scale_ends_nonneg x (negsuc k) h = absurd (omega (arith, ints))
 
 -- a multiple in range by a negative factor: its ends are in order and within 2^110
-pub scale_range_negative : (x : Ends) (k : ℤ) → k <ℤ pos 0 → x.lo ≤ℤ x.hi → IsInRange (scale_ends x k)
+pub scale_range_negative : (x : Ends) (k : ℤ) → k <ℤ pos 0 → x.lo ≤ℤ x.hi → IsIntervalInRange (scale_ends x k)
     → (neg_ℤ (pos (2 ^ 110)) ≤ℤ (k *ℤ x.hi)) × ((k *ℤ x.hi) ≤ℤ (k *ℤ x.lo)) × ((k *ℤ x.lo) ≤ℤ pos (2 ^ 110))
 scale_range_negative x k h l r =
-    let s = subst IsInRange (scale_ends_negative x k h) r in
+    let s = subst IsIntervalInRange (scale_ends_negative x k h) r in
     (s.low, mul_anti_left x.lo x.hi k (omega (arith, ints)) l, s.high)
 
 -- the same by another factor
-pub scale_range_nonneg : (x : Ends) (k : ℤ) → pos 0 ≤ℤ k → x.lo ≤ℤ x.hi → IsInRange (scale_ends x k)
+pub scale_range_nonneg : (x : Ends) (k : ℤ) → pos 0 ≤ℤ k → x.lo ≤ℤ x.hi → IsIntervalInRange (scale_ends x k)
     → (neg_ℤ (pos (2 ^ 110)) ≤ℤ (k *ℤ x.lo)) × ((k *ℤ x.lo) ≤ℤ (k *ℤ x.hi)) × ((k *ℤ x.hi) ≤ℤ pos (2 ^ 110))
 scale_range_nonneg x k h l r =
-    let s = subst IsInRange (scale_ends_nonneg x k h) r in
+    let s = subst IsIntervalInRange (scale_ends_nonneg x k h) r in
     (s.low, mul_mono_left x.lo x.hi k h l, s.high)
 
 -- ---- a quotient's dividend
@@ -231,10 +231,10 @@ rescale_down P R x h =
     same_ends _ _ (sym (floor_found (x.lo *ℤ unit R) (unit P) (floor_of x.lo k) p floor)) (sym (ceiling_found (x.hi *ℤ unit R) (unit P) (ceiling_of x.hi k) p ceiling))
 
 -- ends in range at a finer scale are in order and within 2^110
-pub rescale_up_range : (P R : ℕ) (x : Ends) → P ≤ R → x.lo ≤ℤ x.hi → IsInRange (rescale_ends P R x)
+pub rescale_up_range : (P R : ℕ) (x : Ends) → P ≤ R → x.lo ≤ℤ x.hi → IsIntervalInRange (rescale_ends P R x)
     → (neg_ℤ (pos (2 ^ 110)) ≤ℤ (x.lo *ℤ unit (R - P))) × ((x.lo *ℤ unit (R - P)) ≤ℤ (x.hi *ℤ unit (R - P))) × ((x.hi *ℤ unit (R - P)) ≤ℤ pos (2 ^ 110))
 rescale_up_range P R x h l r =
-    let s = subst IsInRange (rescale_up P R x h) r in
+    let s = subst IsIntervalInRange (rescale_up P R x h) r in
     let u = unit_positive (R - P) in
     (s.low, mul_mono x.lo x.hi (unit (R - P)) (omega (arith, ints)) l, s.high)
 
@@ -299,7 +299,7 @@ cast_is z z' f e = to_z-of_z {w = w128} (record { sfits = f }) ∙ e
 -- two ends that keep their values are in range as they were
 pub passed_ends_in_range : (a b a' b' : ℤ) → mag a < 2 ^ 127 → mag b < 2 ^ 127 → a ≡ a' → b ≡ b'
     → (neg_ℤ (pos (2 ^ 110)) ≤ℤ a') × (a' ≤ℤ b') × (b' ≤ℤ pos (2 ^ 110))
-    → (cast a ≤ℤ cast b) × IsInRange (record { lo = cast a; hi = cast b })
+    → (cast a ≤ℤ cast b) × IsIntervalInRange (record { lo = cast a; hi = cast b })
 passed_ends_in_range a b a' b' f g p q r =
     let x = cast_is a a' f p in
     let y = cast_is b b' g q in

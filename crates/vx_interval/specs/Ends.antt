@@ -13,7 +13,7 @@ abbrev pub IsScale : ℕ → Type 0
 IsScale P = (40 ≤ P) × (P ≤ 62)
 
 -- both ends are within 2^110 in absolute value
-pub record IsInRange (x : Ends) : Type 0 where
+pub record IsIntervalInRange (x : Ends) : Type 0 where
   pub low : neg_ℤ (pos (2 ^ 110)) ≤ℤ x.lo
   pub high : x.hi ≤ℤ pos (2 ^ 110)
 
@@ -21,7 +21,7 @@ pub record IsInRange (x : Ends) : Type 0 where
 pub record IsInterval (P : ℕ) (x : Ends) : Type 0 where
   pub scale : IsScale P
   pub ordered : x.lo ≤ℤ x.hi
-  pub in_range : IsInRange x
+  pub in_range : IsIntervalInRange x
 
 -- hi - lo
 abbrev pub width : Ends → ℤ

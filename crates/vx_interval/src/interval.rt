@@ -2,7 +2,7 @@
 
 ghost use Rattle.std.specs.Prelude.{◌≡◌, ◌^◌, ◌*◌, ◌-◌, ◌≤◌, pos, nat_abs, ◌≤ℤ◌, ◌<ℤ◌, ◌*ℤ◌, ◌+ℤ◌};
 ghost use Rattle.vx_num.specs.Fraction.{Fraction, whole, ◌+ᶠ◌, ◌-ᶠ◌, ◌*ᶠ◌, ◌/ᶠ◌};
-ghost use Rattle.vx_interval.specs.Ends.{Ends, IsInRange, IsInterval, IsScale, add_ends, exact_ends, greatest_product, least_product, magnitude, mul_ends, over_ends, ratio_ends, rescale_ends, rounded_ends, scale_ends, square_ends, sub_ends, unit, width};
+ghost use Rattle.vx_interval.specs.Ends.{Ends, IsIntervalInRange, IsInterval, IsScale, add_ends, exact_ends, greatest_product, least_product, magnitude, mul_ends, over_ends, ratio_ends, rescale_ends, rounded_ends, scale_ends, square_ends, sub_ends, unit, width};
 ghost use Rattle.vx_interval.specs.Membership.{IsMember};
 
 use crate::product::{
@@ -52,7 +52,7 @@ impl<const P: u32> Iv<P> {
     pub fn new(lo: i128, hi: i128) -> Self
         requires scale { IsScale P }
         requires ordered { lo ≤ℤ hi }
-        requires in_range { IsInRange (record { lo = lo; hi = hi }) }
+        requires in_range { IsIntervalInRange (record { lo = lo; hi = hi }) }
         ensures ends { result ≡ record { lo = lo; hi = hi } }
         ensures interval { IsInterval P result }
     {
@@ -64,7 +64,7 @@ impl<const P: u32> Iv<P> {
         requires scale { IsScale P }
         requires divisor { pos 0 <ℤ den }
         requires ordered { low ≤ℤ high }
-        requires in_range { IsInRange (rounded_ends low high den) }
+        requires in_range { IsIntervalInRange (rounded_ends low high den) }
         ensures ends { result ≡ rounded_ends low high den }
         ensures interval { IsInterval P result }
     {
@@ -112,7 +112,7 @@ impl<const P: u32> Iv<P> {
     /// The whole number `n` alone.
     pub fn exact(n: i64) -> Self
         requires scale { IsScale P }
-        requires in_range { IsInRange (exact_ends P n) }
+        requires in_range { IsIntervalInRange (exact_ends P n) }
         ensures ends { result ≡ exact_ends P n }
         ensures encloses { IsMember P result (whole n) }
         ensures width { width result ≡ pos 0 }
@@ -127,7 +127,7 @@ impl<const P: u32> Iv<P> {
         requires scale { IsScale P }
         requires divisor { pos 0 <ℤ den }
         requires small { nat_abs num ≤ 2 ^ (126 - P) }
-        requires in_range { IsInRange (ratio_ends P num den) }
+        requires in_range { IsIntervalInRange (ratio_ends P num den) }
         ensures ends { result ≡ ratio_ends P num den }
         ensures encloses { IsMember P result (record { top = num; bottom = nat_abs den }) }
         ensures width { width result ≤ℤ pos 1 }
@@ -139,7 +139,7 @@ impl<const P: u32> Iv<P> {
 
     /// Every sum of a member of each.
     pub fn add(&self, o: &Self) -> Self
-        requires in_range { IsInRange (add_ends self.now o.now) }
+        requires in_range { IsIntervalInRange (add_ends self.now o.now) }
         ensures ends { result ≡ add_ends self.now o.now }
         ensures encloses { (f g : Fraction) → IsMember P self.now f → IsMember P o.now g → IsMember P result (f +ᶠ g) }
         ensures width { width result ≡ width self.now +ℤ width o.now }
@@ -150,7 +150,7 @@ impl<const P: u32> Iv<P> {
 
     /// Every difference of a member of this and one of the other.
     pub fn sub(&self, o: &Self) -> Self
-        requires in_range { IsInRange (sub_ends self.now o.now) }
+        requires in_range { IsIntervalInRange (sub_ends self.now o.now) }
         ensures ends { result ≡ sub_ends self.now o.now }
         ensures encloses { (f g : Fraction) → IsMember P self.now f → IsMember P o.now g → IsMember P result (f -ᶠ g) }
         ensures width { width result ≡ width self.now +ℤ width o.now }
@@ -161,7 +161,7 @@ impl<const P: u32> Iv<P> {
 
     /// Every member `k` times.
     pub fn scale(&self, k: i64) -> Self
-        requires in_range { IsInRange (scale_ends self.now k) }
+        requires in_range { IsIntervalInRange (scale_ends self.now k) }
         ensures ends { result ≡ scale_ends self.now k }
         ensures encloses { (f : Fraction) → IsMember P self.now f → IsMember P result (whole k *ᶠ f) }
         ensures width { width result ≡ pos (nat_abs k) *ℤ width self.now }
@@ -225,7 +225,7 @@ impl<const P: u32> Iv<P> {
     /// The same fractions at scale `R`, rounded outwards.
     pub fn rescale<const R: u32>(&self) -> Iv<R>
         requires scale { IsScale R }
-        requires in_range { IsInRange (rescale_ends P R self.now) }
+        requires in_range { IsIntervalInRange (rescale_ends P R self.now) }
         ensures ends { result ≡ rescale_ends P R self.now }
         ensures encloses { (f : Fraction) → IsMember P self.now f → IsMember R result f }
         // Below wa*2^R/2^P + 2.

@@ -69,18 +69,18 @@ onto_no_lf byte [] not none = All-cons HasNoLf (byte ∷ []) [] (All-cons (λ c.
 onto_no_lf byte (piece ∷ pieces) not none =
     All-cons HasNoLf (byte ∷ piece) pieces (All-cons (λ c. c ≢ line_feed) byte piece not (All-head HasNoLf piece pieces none)) (All-tail HasNoLf piece pieces none)
 
-none_by : (byte : ℕ) (text : List ℕ) (b : Bool) → (byte == line_feed) ≡ b → All HasNoLf (slice_split (λ c. c == line_feed) text)
+no_lf_by : (byte : ℕ) (text : List ℕ) (b : Bool) → (byte == line_feed) ≡ b → All HasNoLf (slice_split (λ c. c == line_feed) text)
     → All HasNoLf (slice_split (λ c. c == line_feed) (byte ∷ text))
-none_by byte text true is none =
+no_lf_by byte text true is none =
     subst (All HasNoLf) (sym (slice_split-cons_yes (λ c. c == line_feed) byte text is))
     (All-cons HasNoLf [] (slice_split (λ c. c == line_feed) text) (All-nil (λ c. c ≢ line_feed)) none)
-none_by byte text false is none =
+no_lf_by byte text false is none =
     subst (All HasNoLf) (sym (slice_split-cons_no (λ c. c == line_feed) byte text is)) (onto_no_lf byte (slice_split (λ c. c == line_feed) text) (not_lf byte is) none)
 
 -- no piece of a text has LF in it
 none_in_pieces : (text : List ℕ) → All HasNoLf (slice_split (λ byte. byte == line_feed) text)
 none_in_pieces [] = All-cons HasNoLf [] [] (All-nil (λ c. c ≢ line_feed)) (All-nil HasNoLf)
-none_in_pieces (byte ∷ text) = none_by byte text (byte == line_feed) refl (none_in_pieces text)
+none_in_pieces (byte ∷ text) = no_lf_by byte text (byte == line_feed) refl (none_in_pieces text)
 
 -- bytes that begin with a piece too long for a line are too long for one
 long_front : (limit : ℕ) (piece rest : List ℕ) → limit < length piece → HasNoLf piece → IsTooLong limit (piece ++ rest)

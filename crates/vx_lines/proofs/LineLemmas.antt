@@ -28,11 +28,11 @@ lines_then-push lines line rest = lines_then-append lines (line ∷ []) rest
 is_lf : ℕ → Bool
 is_lf byte = byte == line_feed
 
-other_byte : (byte : ℕ) → byte ≢ 10 → (byte == line_feed) ≡ false
-other_byte byte other = grind (arith, nat_tests)
+byte_is_no_lf : (byte : ℕ) → byte ≢ 10 → (byte == line_feed) ≡ false
+byte_is_no_lf byte other = grind (arith, nat_tests)
 
 no_lf_tests : (bytes : List ℕ) → HasNoLf bytes → All (λ byte. (byte == line_feed) ≡ false) bytes
-no_lf_tests bytes no_lf = λ k d within. other_byte _ (no_lf k d within)
+no_lf_tests bytes no_lf = λ k d within. byte_is_no_lf _ (no_lf k d within)
 
 -- a text has a piece
 pub some_piece : (text : List ℕ) → 0 < length (slice_split (λ byte. byte == line_feed) text)

@@ -20,7 +20,7 @@ use Rattle.vx_feed.specs.Standing.{lists_series}
 use Rattle.vx_feed.specs.Listed.{expiry_of, is_declared, is_listed, listed_strike, strikes_of, with_strike}
 use Rattle.vx_feed.specs.NextEvents.{NoneHolds, tests_of}
 use Rattle.vx_feed.specs.Order.{AreLawful, AreLawfulAfter, IsLawfulNext, is_end, is_later_than, is_too_many, order_causes}
-use Rattle.vx_feed.specs.Ranges.{IsInRange}
+use Rattle.vx_feed.specs.Ranges.{IsEventInRange}
 use Rattle.vx_feed.proofs.CauseLemmas.{in_order_has_no_cause}
 use Rattle.vx_feed.proofs.NextEvent.{any-push}
 use Rattle.vx_feed.proofs.StrikeLemmas.{length-strike_more}
@@ -67,7 +67,7 @@ none-push p xs e h k = any-push p xs e ∙ or_from (list_any p xs) (p e) h k
 
 -- an event of which no fault's cause holds may come next. The causes stand in their order: misplaced, after the END, back in time, an expiry or a
 -- series twice, an undeclared expiry, too many, another count, out of days, a second opening
-may_come : (before : List Event) (e : Event) → IsInRange e → NoneHolds (tests_of (order_causes before e)) → IsLawfulNext before e
+may_come : (before : List Event) (e : Event) → IsEventInRange e → NoneHolds (tests_of (order_causes before e)) → IsLawfulNext before e
 may_come before e is none = record { in_range = is; in_order = (in_order_has_no_cause before e).1 none }
 
 -- the first five events
@@ -194,8 +194,8 @@ ask_in_range bid state most = omega arith
 
 -- a quote or a tick at a minute, in its ranges
 abbrev IsTimed : ℕ → Event → Type 0
-IsTimed time (event.Quote t s bid ask) = (t ≡ time) × IsInRange (event.Quote t s bid ask)
-IsTimed time (event.Tick t) = (t ≡ time) × IsInRange (event.Tick t)
+IsTimed time (event.Quote t s bid ask) = (t ≡ time) × IsEventInRange (event.Quote t s bid ask)
+IsTimed time (event.Tick t) = (t ≡ time) × IsEventInRange (event.Tick t)
 IsTimed time _ = ⊥
 
 timed_end : (time : ℕ) (e : Event) → IsTimed time e → is_end e ≡ false

@@ -28,7 +28,7 @@ use Rattle.vx_feed.specs.declared.faults.FeedFault.TheVariants as fault
 use Rattle.vx_feed.specs.Feed.{event_of_line, next_event, Reading, missing_end, stopped_at, with_cause, reading_after, reading_from, reading_on}
 use Rattle.vx_feed.specs.Form.{kind_text}
 use Rattle.vx_feed.specs.Order.{AreLawfulAfter, is_end}
-use Rattle.vx_feed.specs.Ranges.{IsInRange}
+use Rattle.vx_feed.specs.Ranges.{IsEventInRange}
 use Rattle.vx_feed.specs.Written.{behind_commas, event_line, kind_of_event, rate_text, text_of_events, value_fields}
 use Rattle.vx_feed.proofs.ReadBack.{line_back}
 use Rattle.vx_make.specs.ReadBack.{LinesAreOfEvents, TextsAreReadBack}
@@ -74,7 +74,7 @@ rate_short (negsuc n) is =
     let most : suc n ≤ 5000000 = omega (arith, ints, is.0) in
     omega (arith, length-parts-le (suc n) 6 (omega arith) (omega arith) (omega arith))
 
-values_short : (e : Event) → IsInRange e → All IsShort (value_fields e)
+values_short : (e : Event) → IsEventInRange e → All IsShort (value_fields e)
 values_short (event.Header day) is = All-from_recursion IsShort (value_fields (event.Header day)) (omega arith, (day_short day, tt))
 values_short (event.Expiry x) is = All-from_recursion IsShort (value_fields (event.Expiry x)) (root_short x.root, (day_short x.date, tt))
 values_short (event.Rate x rate) is = All-from_recursion IsShort (value_fields (event.Rate x rate)) (root_short x.root, (day_short x.date, (rate_short rate is.1, tt)))
@@ -117,7 +117,7 @@ behind_commas_short (field ∷ fields) all =
     omega (arith, length-append field (behind_commas fields))
 
 -- a line of an event in its ranges has at most 99 bytes
-line_fits : (e : Event) → IsInRange e → length (event_line e) ≤ 256
+line_fits : (e : Event) → IsEventInRange e → length (event_line e) ≤ 256
 unfolding event_line
 line_fits e is =
     let kind = kind_short e in

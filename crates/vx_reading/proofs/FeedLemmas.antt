@@ -87,11 +87,11 @@ record Continues (before : List Event) (whole : Reading) : Type 0 where
   events_are : whole.events ≡ before ++ more
   no_bad : is_met (length before) whole ≡ false
 
-not_met : (n : ℕ) → nat_le (n + 1) n ≡ false
-not_met n = grind (arith, nat_tests)
+next_is_above : (n : ℕ) → nat_le (n + 1) n ≡ false
+next_is_above n = grind (arith, nat_tests)
 
 stopped_continues : (before : List Event) (why : BadCause) → Continues before (stopped_at before why)
-stopped_continues before why = record { more = []; events_are = sym (append-nil before); no_bad = not_met (length before) }
+stopped_continues before why = record { more = []; events_are = sym (append-nil before); no_bad = next_is_above (length before) }
 
 good_continues : (before : List Event) → Continues before (all_good before)
 good_continues before = record { more = []; events_are = sym (append-nil before); no_bad = refl }

@@ -18,7 +18,7 @@ use Rattle.vx_blocks.specs.declared.stop.ReadStop.{ReadStop}
 use Rattle.vx_blocks.specs.declared.stop.ReadStop.TheVariants as read
 use Rattle.vx_blocks.specs.Stops as blocks
 use Rattle.vx_blocks.specs.SplitLines.{AreAhead, HasNext, IsRestAfter, IsSameText, behind, has_line, is_in_hand, lines_coming}
-use Rattle.vx_blocks.specs.Given.{HasGiven, TakesLine}
+use Rattle.vx_blocks.specs.Given.{HasGiven, TakesNextLine}
 use Rattle.vx_blocks.proofs.ComingLemmas.{all_taken, none_at_hand}
 use Rattle.vx_blocks.proofs.TakeLemmas.{takes_next}
 use Rattle.vx_feed.specs.declared.events.Event.{Event}
@@ -31,7 +31,7 @@ use Rattle.vx_reading.specs.declared.stop.FeedCause.{FeedCause}
 use Rattle.vx_reading.specs.declared.stop.FeedCause.TheVariants as cause
 use Rattle.vx_reading.specs.declared.stop.FeedStop.{FeedStop}
 use Rattle.vx_reading.specs.declared.stop.FeedStop.TheVariants as stop
-use Rattle.vx_reading.specs.Stops.{IsCause, IsNoFault, bad_cause, failed_in, stop_calls, stop_of}
+use Rattle.vx_reading.specs.Stops.{IsCause, IsNoFeedFault, bad_cause, feed_failed_in, feed_stop_calls, stop_of}
 use Rattle.vx_reading.specs.FeedAhead.{IsFeedAhead, SaysEvent, ahead_says, cause_of_rest}
 use Rattle.vx_reading.specs.FeedReading.{EndsAt, HasTakenUp, IsAt, ReadsNext, Says, all_good}
 use Rattle.vx_reading.proofs.FeedLemmas.{twice}
@@ -40,17 +40,17 @@ use Rattle.vx_reading.proofs.SayLemmas.{say_more}
 -- ---- stops
 
 -- a stop of the lines that is no fault of the device is none of the feed
-pub no_fault_of : (why : ReadStop) → blocks.IsNoFault why → IsNoFault (stop_of why)
+pub no_fault_of : (why : ReadStop) → blocks.IsNoFault why → IsNoFeedFault (stop_of why)
 no_fault_of read.Device none = none
 no_fault_of read.NoMemory none = tt
 
 -- the calls of which a stop of the feed says that one failed
-pub calls_of : (slot : Slot) (why : ReadStop) → slot ≡ Feed → stop_calls (stop_of why) ≡ blocks.stop_calls slot why
+pub calls_of : (slot : Slot) (why : ReadStop) → slot ≡ Feed → feed_stop_calls (stop_of why) ≡ blocks.stop_calls slot why
 calls_of slot read.Device is = ap (λ (s : Slot). Some (record { slot = s; kind = read_call })) (sym is)
 calls_of slot read.NoMemory is = refl
 
 -- where the device did not fail, no call failed
-pub no_fault_calls : {T : Type 0} (result : Result T FeedStop) → IfErr result IsNoFault → failed_in result ≡ None
+pub no_fault_calls : {T : Type 0} (result : Result T FeedStop) → IfErr result IsNoFeedFault → feed_failed_in result ≡ None
 no_fault_calls (Ok x) none = refl
 no_fault_calls (Err (stop.BadLine line why)) none = refl
 no_fault_calls (Err stop.NoMemory) none = refl
@@ -96,11 +96,11 @@ line_says line events None = refl
 line_says line events (Some lines) = refl
 
 -- a line says what its fields say, where it was split
-line_event : (fields : List (List ℕ)) (events : List Event) (said : Result Event FeedFault) (old ahead : SplitLines) (takes : TakesLine fields old ahead) → next_event events fields ≡ said → event_of_line events takes.line ≡ said
+line_event : (fields : List (List ℕ)) (events : List Event) (said : Result Event FeedFault) (old ahead : SplitLines) (takes : TakesNextLine fields old ahead) → next_event events fields ≡ said → event_of_line events takes.line ≡ said
 line_event fields events said old ahead takes is = split_says events takes.line takes.is_split.can_be ∙ ap (next_event events) (sym takes.is_split.fields_are) ∙ is
 
 -- and then the rest, by its fields
-fields_say : (fields : List (List ℕ)) (events : List Event) (said : Result Event FeedFault) (old ahead : SplitLines) (told : Slot → Told) → TakesLine fields old ahead → next_event events fields ≡ said
+fields_say : (fields : List (List ℕ)) (events : List Event) (said : Result Event FeedFault) (old ahead : SplitLines) (told : Slot → Told) → TakesNextLine fields old ahead → next_event events fields ≡ said
     → option_map (λ lines. reading_after (λ es. reading_on es lines) events (with_cause said)) (lines_coming ahead told) ≡ ahead_says old told events
 fields_say fields events said old ahead told takes is =
     let line_said : event_of_line events takes.line ≡ said = line_event fields events said old ahead takes is in
@@ -109,10 +109,10 @@ fields_say fields events said old ahead told takes is =
     ∙ ap (option_map (reading_on events)) (sym (takes.coming told))
 
 -- one more event is taken up
-pub line_read : {T : Type 0} (StandsFor : T → List Event → Type 0) (held : Option (List ℕ)) (whole : Option Reading) (events : List Event) (event : Event) (fields : List (List ℕ)) (old new : FeedReader T)
+pub feed_line_read : {T : Type 0} (StandsFor : T → List Event → Type 0) (held : Option (List ℕ)) (whole : Option Reading) (events : List Event) (event : Event) (fields : List (List ℕ)) (old new : FeedReader T)
     (ahead : SplitLines) (told : Slot → Told) → IsAt StandsFor held whole events old told → slice_get old.ahead.table old.ahead.taken ≡ Some fields → ahead ≡ record old.ahead { taken = old.ahead.taken + 1 } → new.ahead ≡ ahead
     → next_event events fields ≡ Ok event → HasTakenUp StandsFor new (events ++ event ∷ []) → IsAt StandsFor held whole (events ++ event ∷ []) new told
-line_read StandsFor held whole events event fields old new ahead told at fields_at taken same said has =
+feed_line_read StandsFor held whole events event fields old new ahead told at fields_at taken same said has =
     let next : SplitLines = record old.ahead { taken = old.ahead.taken + 1 } in
     let takes = takes_next fields old.ahead at.ahead.are_ahead fields_at in
     let is : new.ahead ≡ next = same ∙ taken in
@@ -148,7 +148,7 @@ bad_line_read StandsFor held whole events fields old new told stop.NoMemory at f
 bad_line_read StandsFor held whole events fields old new told stop.Device at fields_at says = absurd says
 
 -- which is no fault of the device
-pub said_no_fault : (said : Result Event FeedFault) (events : List Event) (number : ℕ) (why : FeedStop) → SaysEvent said events number (Err why) → IsNoFault why
+pub said_no_fault : (said : Result Event FeedFault) (events : List Event) (number : ℕ) (why : FeedStop) → SaysEvent said events number (Err why) → IsNoFeedFault why
 said_no_fault said events number (stop.BadLine line why) says = tt
 said_no_fault said events number stop.NoMemory says = tt
 said_no_fault said events number stop.Device says = absurd says
@@ -237,6 +237,6 @@ end_read StandsFor held whole events feed told result at next none known ends =
     ends_by StandsFor held whole events feed told result feed.has_end refl at says ends
 
 -- the end of the feed is no fault of the device
-pub end_no_fault : (b : Bool) (number : ℕ) (result : Result (Option Event) FeedStop) → EndsAt b number result → IfErr result IsNoFault
-end_no_fault true number result ends = subst (λ (r : Result (Option Event) FeedStop). IfErr r IsNoFault) (sym ends) tt
-end_no_fault false number result ends = subst (λ (r : Result (Option Event) FeedStop). IfErr r IsNoFault) (sym ends) tt
+pub end_no_fault : (b : Bool) (number : ℕ) (result : Result (Option Event) FeedStop) → EndsAt b number result → IfErr result IsNoFeedFault
+end_no_fault true number result ends = subst (λ (r : Result (Option Event) FeedStop). IfErr r IsNoFeedFault) (sym ends) tt
+end_no_fault false number result ends = subst (λ (r : Result (Option Event) FeedStop). IfErr r IsNoFeedFault) (sym ends) tt

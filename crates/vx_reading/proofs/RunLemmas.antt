@@ -32,10 +32,10 @@ same_twice : (first between now : SplitLines) → IsSameText first between → I
 same_twice first between now one other = record { slot = other.slot ∙ one.slot; limit = other.limit ∙ one.limit }
 
 -- one more event is taken up
-pub one_more : {T : Type 0} (StandsFor : T → List Event → Type 0) (first : FeedReader T) (before : Slot → Told) (old : FeedReader T) (told : Slot → Told) (new : FeedReader T) (after : Slot → Told) (counter : ℕ)
+pub takes_one_more : {T : Type 0} (StandsFor : T → List Event → Type 0) (first : FeedReader T) (before : Slot → Told) (old : FeedReader T) (told : Slot → Told) (new : FeedReader T) (after : Slot → Told) (counter : ℕ)
     (event : Event) (found : Option Event) → IsReadOn StandsFor first before old told counter → found ≡ Some event → TakesOne StandsFor old told new after (Ok found) → IsStep None told after → ChangesOnly Feed told after
     → LosesNothing old.ahead told new.ahead after → IsSameText old.ahead new.ahead → IsReadOn StandsFor first before new after (counter + 1)
-one_more StandsFor first before old told new after counter event found was is takes step others comes same =
+takes_one_more StandsFor first before old told new after counter event found was is takes step others comes same =
     let then : TakesOne StandsFor old told new after (Ok (Some event)) = subst (λ (f : Option Event). TakesOne StandsFor old told new after (Ok f)) is takes in
     let some = was.reading in
     let further = then some.0 some.1 some.2 some.3 in

@@ -29,17 +29,17 @@ stop_of read.Device = Device
 stop_of read.NoMemory = NoMemory
 
 -- the stop is no fault of the device
-abbrev pub IsNoFault : FeedStop → Type 0
-IsNoFault Device = ⊥
-IsNoFault _ = Unit {0}
+abbrev pub IsNoFeedFault : FeedStop → Type 0
+IsNoFeedFault Device = ⊥
+IsNoFeedFault _ = Unit {0}
 
 -- the calls of which a stop says that one failed
-abbrev pub stop_calls : FeedStop → Option Calls
-stop_calls (BadLine line cause) = None
-stop_calls Device = Some (record { slot = Feed; kind = read_call })
-stop_calls NoMemory = None
+abbrev pub feed_stop_calls : FeedStop → Option Calls
+feed_stop_calls (BadLine line cause) = None
+feed_stop_calls Device = Some (record { slot = Feed; kind = read_call })
+feed_stop_calls NoMemory = None
 
 -- the same of a step that may stop
-abbrev pub failed_in : {T : Type 0} → Result T FeedStop → Option Calls
-failed_in (Ok _) = None
-failed_in (Err stop) = stop_calls stop
+abbrev pub feed_failed_in : {T : Type 0} → Result T FeedStop → Option Calls
+feed_failed_in (Ok _) = None
+feed_failed_in (Err stop) = feed_stop_calls stop

@@ -67,14 +67,13 @@ impl<T: TakesEvents> FeedReader<T> {
     ghost use Rattle.vx_desk.specs.Told.{ChangesOnly, Told};
     ghost use Rattle.vx_desk.specs.declared.device.Slot.{Slot};
     ghost use Rattle.vx_feed.specs.declared.events.Event.{Event};
-    ghost use Rattle.vx_feed.specs.Order.{IsLawfulNext};
     ghost use Rattle.vx_desk.specs.Calls.{IsStep};
     ghost use Rattle.vx_blocks.specs.SplitLines.{HasNext, IsSameText, has_line};
     ghost use Rattle.vx_blocks.specs.Given.{LosesNothing};
-    ghost use Rattle.vx_reading.specs.Stops.{IsNoFault, failed_in};
+    ghost use Rattle.vx_reading.specs.Stops.{IsNoFeedFault, feed_failed_in};
     ghost use Rattle.vx_reading.specs.FeedReading.{EndsAt, HasTakenUp, IsAtStart, IsReading, IsTakerOf, TakesAll};
     ghost use Rattle.vx_reading.specs.FeedReading.{StaysRead, TakesOne, TakesUpTo, is_waiting};
-    ghost use Rattle.vx_reading.specs.Takes.{TakesUp};
+    ghost use Rattle.vx_reading.specs.Takes.{MayTakeUp, TakesUp};
 
     /// The reader of a feed of which no line was read.
     #[tactic(auto, using(crate::proofs::FeedLemmas::starts))]
@@ -100,7 +99,7 @@ impl<T: TakesEvents> FeedReader<T> {
 
     /// Takes up one more event.
     fn push(&mut self, event: Event) -> Result<(), NoMemory>
-        requires may { (events : List Event) × HasTakenUp T.StandsFor self.old events × IsLawfulNext events event }
+        requires may { MayTakeUp (HasTakenUp T.StandsFor) self.old event }
         ensures taken { TakesUp (HasTakenUp T.StandsFor) self.old event self.new result }
         ensures ahead { self.new.ahead ≡ self.old.ahead }
     {
@@ -129,7 +128,7 @@ impl<T: TakesEvents> FeedReader<T> {
         requires reading { (told : Slot → Told) × IsReading T.StandsFor self.old told }
         requires at_hand { self.old.ahead.taken < length self.old.ahead.table }
         ensures takes { (told : Slot → Told) → TakesOne T.StandsFor self.old told self.new told result }
-        ensures no_fault { IfErr result IsNoFault }
+        ensures no_fault { IfErr result IsNoFeedFault }
         ensures lines { self.new.ahead.lines ≡ self.old.ahead.lines }
     {
         let event = event_of(&self.ahead.fields(), &self.order, self.count + 1)?;
@@ -144,7 +143,7 @@ impl<T: TakesEvents> FeedReader<T> {
         requires next { HasNext self.now.ahead }
         requires none { has_line self.now.ahead ≡ false }
         ensures takes { (told : Slot → Told) → TakesOne T.StandsFor self.now told self.now told result }
-        ensures no_fault { IfErr result IsNoFault }
+        ensures no_fault { IfErr result IsNoFeedFault }
     {
         let number = self.count + 1;
         match cause_of(self.ahead.rest()) {
@@ -164,8 +163,8 @@ impl<T: TakesEvents> FeedReader<T> {
         ensures stays_read { StaysRead self.old (D.told desk.old) (D.told desk.new) }
         ensures comes_on { LosesNothing self.old.ahead (D.told desk.old) self.new.ahead (D.told desk.new) }
         ensures same { IsSameText self.old.ahead self.new.ahead }
-        ensures in_hand { is_waiting self.old ≡ true → (desk.new ≡ desk.old) × IfErr result IsNoFault }
-        ensures step { IsStep (failed_in result) (D.told desk.old) (D.told desk.new) }
+        ensures in_hand { is_waiting self.old ≡ true → (desk.new ≡ desk.old) × IfErr result IsNoFeedFault }
+        ensures step { IsStep (feed_failed_in result) (D.told desk.old) (D.told desk.new) }
         ensures others { ChangesOnly Slot.Feed (D.told desk.old) (D.told desk.new) }
     {
         self.ahead.read_on(desk)?;
@@ -183,7 +182,7 @@ impl<T: TakesEvents> FeedReader<T> {
         requires open { IsTrue (D.told desk.old Slot.Feed).is_open }
         ensures reads { TakesUpTo T.StandsFor number self.old (D.told desk.old) self.new (D.told desk.new) result }
         ensures stays_read { StaysRead self.old (D.told desk.old) (D.told desk.new) }
-        ensures step { IsStep (failed_in result) (D.told desk.old) (D.told desk.new) }
+        ensures step { IsStep (feed_failed_in result) (D.told desk.old) (D.told desk.new) }
         ensures others { ChangesOnly Slot.Feed (D.told desk.old) (D.told desk.new) }
     {
         for _ in self.count..number {
@@ -203,7 +202,7 @@ impl<T: TakesEvents> FeedReader<T> {
         requires open { IsTrue (D.told desk.old Slot.Feed).is_open }
         ensures reads { TakesAll T.StandsFor self.old (D.told desk.old) self.new (D.told desk.new) result }
         ensures stays_read { StaysRead self.old (D.told desk.old) (D.told desk.new) }
-        ensures step { IsStep (failed_in result) (D.told desk.old) (D.told desk.new) }
+        ensures step { IsStep (feed_failed_in result) (D.told desk.old) (D.told desk.new) }
         ensures others { ChangesOnly Slot.Feed (D.told desk.old) (D.told desk.new) }
     {
         for _ in self.count..=u64::from(LINES_MAX) {

@@ -1,9 +1,8 @@
 //! What takes up the events of a feed.
 
-ghost use Rattle.std.specs.Prelude.{List, OnErr};
+ghost use Rattle.std.specs.Prelude.{List};
 ghost use Rattle.vx_feed.specs.declared.events.Event.{Event};
-ghost use Rattle.vx_feed.specs.Order.{IsLawfulNext};
-ghost use Rattle.vx_reading.specs.Takes.{TakesUp};
+ghost use Rattle.vx_reading.specs.Takes.{MayTakeUp, KeepsStanding, TakesUp};
 
 use vx_feed::Event;
 use vx_num::NoMemory;
@@ -16,7 +15,7 @@ pub trait TakesEvents: Drop {
 
     /// Takes up the next event. For want of memory the value stands for what it stood for before.
     fn take(&mut self, event: Event) -> Result<(), NoMemory>
-        requires lawful { (events : List Event) × StandsFor self.old events × IsLawfulNext events event }
+        requires lawful { MayTakeUp StandsFor self.old event }
         ensures taken { TakesUp StandsFor self.old event self.new result }
-        ensures kept { (events : List Event) → StandsFor self.old events → OnErr result (StandsFor self.new events) };
+        ensures kept { KeepsStanding StandsFor self.old self.new result };
 }

@@ -1,11 +1,11 @@
 -- The answers for two picked terms can be joined, and the certificate of a figure that they publish is in range.
-use Rattle.std.proofs.Common.{◌≡◌, ◌∙◌, sym, ap, subst, ℕ, ◌*◌, ◌≤◌, ℤ, ◌≤ℤ◌, List, length, map, Option, Some, arith}
+use Rattle.std.proofs.Common.{◌≡◌, ◌∙◌, sym, ap, subst, ℕ, ◌*◌, ◌≤◌, ℤ, ◌≤ℤ◌, length, arith}
 use Rattle.std.proofs.lemmas.Int.{ints}
 use Rattle.std.proofs.lemmas.List.{length-map}
 use Rattle.vx_clock.specs.declared.limits.TheConstants.{DAY_MINUTES, MINUTE_MAX}
 use Rattle.vx_clock.specs.declared.terms.Expiry.{Expiry}
 use Rattle.vx_feed.specs.Listed.{declared_expiries}
-use Rattle.vx_interval.specs.Ends.{Ends, IsInterval, IsScale, unit}
+use Rattle.vx_interval.specs.Ends.{Ends, IsInterval, IsScale}
 use Rattle.vx_bounds.specs.Cents.{Decides}
 use Rattle.vx_bounds.specs.declared.cents.Decision.{Decision}
 use Rattle.vx_bounds.specs.declared.cents.Decision.TheVariants as decision
@@ -39,7 +39,7 @@ use Rattle.vx_replay.specs.declared.answer.TickAnswer.{TickAnswer}
 use Rattle.vx_replay.specs.declared.answer.TickAnswer.TheVariants.{Published, UndecidedCents, UndecidedForward, Refused}
 use Rattle.vx_replay.specs.Figures.{square_of_runs, certificate_of_runs, index_certificate, IsFigureAnswer}
 use Rattle.vx_replay.specs.Joined.{IsJoined, IsJoinedWithRun}
-use Rattle.vx_replay.specs.Joinable.{IsRunJoinable, AreRunsJoinable, IsJoinableWithRun, AreJoinable, CanBeWritten}
+use Rattle.vx_replay.specs.Joinable.{AreRunsJoinable, IsJoinableWithRun, AreJoinable, CanBeWritten}
 use Rattle.vx_replay.specs.Laws.{PickedAnswersAreJoinable}
 use Rattle.vx_replay.proofs.Accepted.{minutes_of_runs, near_ordered, next_ordered, near_range, next_range}
 

@@ -2,7 +2,7 @@
 
 ghost use Rattle.std.specs.Prelude.{◌≡◌, false, IsTrue};
 ghost use Rattle.vx_desk.specs.Memory.{told_memory, held_by};
-ghost use Rattle.vx_desk.specs.Slots.{IsReading, IsWriting};
+ghost use Rattle.vx_desk.specs.Slots.{IsReadingSlot, IsWritingSlot};
 ghost use Rattle.vx_desk.specs.Told.{Opens, Reads, Writes, ChangesOnly};
 
 use vx_cli::Exit;
@@ -39,7 +39,7 @@ impl Desk for Watched {
     }
 
     fn read(&mut self, slot: Slot, buf: &mut [u8]) -> Result<usize, Failed>
-        requires reading { IsReading slot }
+        requires reading { IsReadingSlot slot }
         requires open { IsTrue (told_memory self.old.desk slot).is_open }
         ensures reads { Reads buf.new (told_memory self.old.desk slot) (told_memory self.new.desk slot) result }
         ensures others { ChangesOnly slot (told_memory self.old.desk) (told_memory self.new.desk) }
@@ -53,7 +53,7 @@ impl Desk for Watched {
     }
 
     fn write(&mut self, slot: Slot, bytes: &[u8]) -> Result<usize, Failed>
-        requires writing { IsWriting slot }
+        requires writing { IsWritingSlot slot }
         requires open { IsTrue (told_memory self.old.desk slot).is_open }
         ensures writes { Writes bytes.now (told_memory self.old.desk slot) (told_memory self.new.desk slot) result }
         ensures others { ChangesOnly slot (told_memory self.old.desk) (told_memory self.new.desk) }

@@ -19,7 +19,8 @@ use Rattle.vx_soundness.specs.Enclosing.{Encloses}
 
 -- ---- sums of a list's front
 
-sum-take : (xs : List ℕ) (n : ℕ) → sum (take (suc n) xs) ≡ sum (take n xs) + slice_index xs n
+-- one item more adds its value
+pub sum-take : (xs : List ℕ) (n : ℕ) → sum (take (suc n) xs) ≡ sum (take n xs) + slice_index xs n
 sum-take [] zero = refl
 sum-take [] (suc n) = refl
 sum-take (x ∷ xs) zero = sum_by-cons (λ y. y) x [] ∙ omega arith

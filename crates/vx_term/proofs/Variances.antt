@@ -5,7 +5,7 @@ use native.Mathlib.Nat.{mul-le-mul}
 use Rattle.vx_num.specs.Fraction.{Fraction, whole, ◌-ᶠ◌, ◌*ᶠ◌, ◌/ᶠ◌}
 use Rattle.vx_num.proofs.Whole.{mul_assoc, mul_comm, mul_both, mul_nonneg, square_mono}
 use Rattle.vx_num.proofs.Quotients.{floor_greatest, ceiling_least}
-use Rattle.vx_interval.specs.Ends.{Ends, IsScale, IsInRange, unit, magnitude, exact_ends, sub_ends, scale_ends, mul_ends, square_ends, over_ends}
+use Rattle.vx_interval.specs.Ends.{Ends, IsScale, IsIntervalInRange, unit, magnitude, exact_ends, sub_ends, scale_ends, mul_ends, square_ends, over_ends}
 use Rattle.vx_interval.specs.Membership.{IsMember}
 use Rattle.vx_interval.proofs.EndsLemmas.{unit_positive}
 use Rattle.vx_interval.proofs.RoundingLemmas.{floor_of_is, ceiling_of_is}
@@ -28,7 +28,7 @@ module _ (P k : ℕ) (f : Ends) (at_least : (pos k *ℤ unit P) ≤ℤ f.lo) (or
       let e : pos (2 * k) *ℤ unit P ≡ pos 2 *ℤ (pos k *ℤ unit P) = mul_assoc (pos 2) (pos k) (unit P) in
       record { low = omega (arith, ints); high = omega (arith, ints) }
 
-  pub above_range : IsScale P → k ≤ 50000000 → IsInRange above
+  pub above_range : IsScale P → k ≤ 50000000 → IsIntervalInRange above
   above_range s h =
       let r = exact_strike_in_range P k s h in
       let a = r.low in let b = r.high in
@@ -131,7 +131,7 @@ module _ (P : ℕ) (scale : IsScale P) (e t g : Ends) (he : IsExponentialInRange
   abbrev pub twice : Ends
   twice = scale_ends product (pos 2)
 
-  pub twice_range : product.lo ≤ℤ product.hi → IsInRange twice
+  pub twice_range : product.lo ≤ℤ product.hi → IsIntervalInRange twice
   twice_range o =
       let u = unit_at_most P scale in
       record { low = omega (arith, ints, product_range); high = omega (arith, ints, product_range) }
@@ -142,7 +142,7 @@ module _ (P : ℕ) (scale : IsScale P) (e t g : Ends) (he : IsExponentialInRange
   pub variance_high : (variance_ends P e t g).hi ≤ℤ (pos 5 *ℤ unit P)
   variance_high = let a = square_up_to.low in omega (arith, ints, product_range)
 
-  pub variance_range : product.lo ≤ℤ product.hi → (square_ends P g).lo ≤ℤ (square_ends P g).hi → IsInRange (variance_ends P e t g)
+  pub variance_range : product.lo ≤ℤ product.hi → (square_ends P g).lo ≤ℤ (square_ends P g).hi → IsIntervalInRange (variance_ends P e t g)
   variance_range o q =
       let u = unit_at_most P scale in
       let p = unit_positive P in

@@ -6,7 +6,7 @@ use lib.Signed.{mag}
 use Rattle.vx_num.specs.Fraction.{Fraction, whole, ◌+ᶠ◌, ◌*ᶠ◌}
 use Rattle.vx_num.proofs.Whole.{mul_neg, neg_mul, add_mul, mul_assoc, mul_comm, mul_mono, mul_mono_left, mul_left_comm, mul_anti_left, mul_nonneg, mul_positive}
 use Rattle.vx_num.proofs.Quotients.{floor_within, ceiling_within}
-use Rattle.vx_interval.specs.Ends.{Ends, IsScale, IsInRange, unit, add_ends, scale_ends, over_ends}
+use Rattle.vx_interval.specs.Ends.{Ends, IsScale, IsIntervalInRange, unit, add_ends, scale_ends, over_ends}
 use Rattle.vx_interval.specs.Membership.{IsMember}
 use Rattle.vx_interval.proofs.EndsLemmas.{unit_positive}
 use Rattle.vx_interval.proofs.RoundingLemmas.{floor_of_is, ceiling_of_is}
@@ -52,7 +52,7 @@ pub scaled_ordered : (x : Ends) (k : ℤ) → x.lo ≤ℤ x.hi → (scale_ends x
 scaled_ordered x (pos k) h = mul_mono_left x.lo x.hi (pos k) (omega (arith, ints)) h
 scaled_ordered x (negsuc k) h = mul_anti_left x.lo x.hi (negsuc k) (omega (arith, ints)) h
 
-within_range : (m : ℤ) (x : Ends) → m ≤ℤ pos (2 ^ 110) → AreEndsWithin m x → IsInRange x
+within_range : (m : ℤ) (x : Ends) → m ≤ℤ pos (2 ^ 110) → AreEndsWithin m x → IsIntervalInRange x
 within_range m x h k =
     let a = k.low in let b = k.high in
     record { low = omega (arith, ints); high = omega (arith, ints) }
@@ -64,7 +64,7 @@ single_scaled P w h =
     let u = unit_positive P in
     wider (scale_ends w (pos 525600)) _ _ (omega (arith, ints)) (scaled_within w (pos 525600) (pos 6 *ℤ unit P) h)
 
-pub single_scaled_range : (P : ℕ) (w : Ends) → IsScale P → IsVarianceInRange P w → IsInRange (scale_ends w (pos 525600))
+pub single_scaled_range : (P : ℕ) (w : Ends) → IsScale P → IsVarianceInRange P w → IsIntervalInRange (scale_ends w (pos 525600))
 single_scaled_range P w s h = let u = unit_at_most P s in within_range _ (scale_ends w (pos 525600)) (omega (arith, ints)) (single_scaled P w h)
 
 pub single_range : (P : ℕ) (w : Ends) → w.lo ≤ℤ w.hi → IsVarianceInRange P w → IsSquareInRange P (single_ends w)
@@ -138,22 +138,22 @@ module _ (P : ℕ) (w1 w2 : Ends) (n1 n2 target : ℕ) (rising : n1 < n2) (last 
     pub year_within : AreEndsWithin (pos 9460800 *ℤ apart) year
     year_within = wider year _ _ (omega (arith, ints)) (scaled_within mixed (pos 525600) (pos 18 *ℤ apart) mixed_within)
 
-    pub near_scaled_range : IsScale P → IsInRange (scale_ends w1 a)
+    pub near_scaled_range : IsScale P → IsIntervalInRange (scale_ends w1 a)
     near_scaled_range s =
         let u = unit_positive P in
         let n = mul_nonneg (pos (nat_abs b)) (pos 6 *ℤ unit P) (omega (arith, ints)) (omega (arith, ints)) in
         within_range _ (scale_ends w1 a) (omega (arith, ints, weighted, small s)) (scaled_within w1 a (pos 6 *ℤ unit P) h1)
 
-    pub next_scaled_range : IsScale P → IsInRange (scale_ends w2 b)
+    pub next_scaled_range : IsScale P → IsIntervalInRange (scale_ends w2 b)
     next_scaled_range s =
         let u = unit_positive P in
         let n = mul_nonneg (pos (nat_abs a)) (pos 6 *ℤ unit P) (omega (arith, ints)) (omega (arith, ints)) in
         within_range _ (scale_ends w2 b) (omega (arith, ints, weighted, small s)) (scaled_within w2 b (pos 6 *ℤ unit P) h2)
 
-    pub mixed_range : IsScale P → IsInRange mixed
+    pub mixed_range : IsScale P → IsIntervalInRange mixed
     mixed_range s = within_range _ mixed (omega (arith, ints, small s)) mixed_within
 
-    pub year_range : IsScale P → IsInRange year
+    pub year_range : IsScale P → IsIntervalInRange year
     year_range s = within_range _ year (omega (arith, ints, small s)) year_within
 
     pub square_range : w1.lo ≤ℤ w1.hi → w2.lo ≤ℤ w2.hi → IsSquareInRange P (interpolated_ends target w1 n1 w2 n2)
@@ -175,8 +175,8 @@ module _ (P : ℕ) (w1 w2 : Ends) (n1 n2 target : ℕ) (rising : n1 < n2) (last 
 pub given : (r z : ℤ) → mag r < 2 ^ 63 → r ≡ z → to_z w64 (of_z w64 r) ≡ z
 given r z f e = to_z-of_z {w = w64} (record { sfits = f }) ∙ e
 
-pub scaled_given_range : (x : Ends) (k k' : ℤ) → k' ≡ k → IsInRange (scale_ends x k) → IsInRange (scale_ends x k')
-scaled_given_range x k k' e h = let Q : ℤ → Type 0 = λ z. IsInRange (scale_ends x z) in subst Q (sym e) h
+pub scaled_given_range : (x : Ends) (k k' : ℤ) → k' ≡ k → IsIntervalInRange (scale_ends x k) → IsIntervalInRange (scale_ends x k')
+scaled_given_range x k k' e h = let Q : ℤ → Type 0 = λ z. IsIntervalInRange (scale_ends x z) in subst Q (sym e) h
 
 pub single_given : (x w : Ends) (k d : ℤ) → x ≡ scale_ends w k → k ≡ pos 525600 → d ≡ pos 43200 → over_ends x d ≡ single_ends w
 single_given x w k d p q r = ap₂ over_ends (p ∙ ap (scale_ends w) q) r

@@ -4,4 +4,3 @@ pub mod StripLemmas
 pub mod Products
 pub mod Comparisons
 pub mod TermRanges
-pub mod Numbered

@@ -4,6 +4,7 @@ use Rattle.std.specs.Ordering.{int_eq}
 use Rattle.std.proofs.lemmas.Bool.{cases_lt, cases_eq}
 use Rattle.std.proofs.lemmas.Bool.Decides.{Decides-int_eq}
 use Rattle.std.proofs.lemmas.Option.{same_Some}
+use Rattle.vx_drivers.proofs.OneRun.{same_head, same_tail}
 use Rattle.vx_formula.proofs.BestOf.{some_or_none}
 use Rattle.vx_formula.proofs.Lists.{In, all_from_in, all_in, contains_from_in, in_from_contains}
 
@@ -91,12 +92,6 @@ any_of P each xs =
 pub is_among : {X : Type 0} (x : X) → ((y : X) → IsDecided (y ≡ x)) → (xs : List X) → IsDecided (In xs x)
 is_among x same [] = inr (λ h. elim h [ ])
 is_among x same (y ∷ ys) = either (same y) (is_among x same ys)
-
-same_head : {X : Type 0} (x y : X) (xs ys : List X) → x ∷ xs ≡ y ∷ ys → x ≡ y
-same_head x y xs ys h = cc
-
-same_tail : {X : Type 0} (x y : X) (xs ys : List X) → x ∷ xs ≡ y ∷ ys → xs ≡ ys
-same_tail x y xs ys h = cc
 
 -- two lists are one
 pub same_list : {X : Type 0} → ((x y : X) → IsDecided (x ≡ y)) → (xs ys : List X) → IsDecided (xs ≡ ys)

@@ -38,8 +38,8 @@ single_square P w x =
     (both_ends w Low (λ y. at_most_or_not (x.lo *ℤ pos THIRTY_DAYS) (pos YEAR_MINUTES *ℤ y)))
     (both_ends w High (λ y. at_most_or_not (pos YEAR_MINUTES *ℤ y) (x.hi *ℤ pos THIRTY_DAYS)))))
 
-pub index_ends : (P : ℕ) (figure : CertFigure) → IsDecided (EnclosesIndex P figure)
-index_ends P figure =
+pub index_ends_are_decided : (P : ℕ) (figure : CertFigure) → IsDecided (EnclosesIndex P figure)
+index_ends_are_decided P figure =
     like
     (λ h. record {
       not_negative = h.0.0.0;

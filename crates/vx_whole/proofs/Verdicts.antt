@@ -20,11 +20,11 @@ use Rattle.vx_claims.specs.Test.{test_number}
 use Rattle.vx_claims.specs.Seen.{events_before, moment_of, opening_term_facts, term_facts}
 use Rattle.vx_claims.specs.TermTests.{TermMeets}
 use Rattle.vx_claims.specs.Accepts.{BodyMeets, FirstFailing, IndexMeets, K0Meets, Meets, OpeningTermMeets, SingleMeets, SoqMeets, TermMeetsAt, scale_of, zero_rate_forward}
-use Rattle.vx_tests.proofs.Numbered.{same_test}
+use Rattle.vx_claims.proofs.TestNumbers.{same_test}
 use Rattle.vx_check.proofs.Verdicts.{first_number, last_number}
 use Rattle.vx_whole.specs.Verdicts.{EveryCertificateIsJudged}
 use Rattle.vx_whole.proofs.Decided.{IsDecided, both, is_some, is_true, like, of_some, same_number, same_whole}
-use Rattle.vx_whole.proofs.FigureTests.{index_ends, single_square, square}
+use Rattle.vx_whole.proofs.FigureTests.{index_ends_are_decided, single_square, square}
 use Rattle.vx_whole.proofs.Places.{opening_at, opening_term, picked_terms, tick_at}
 use Rattle.vx_whole.proofs.TermTests.{closest_pair, level_of_ends, term_test}
 
@@ -67,7 +67,7 @@ module _ (days window : ℕ) (events : List Event) (version line time : ℕ) whe
   index_test stated near next figure Total = both (term_at events version line time near Total) (term_at events version line time next Total)
   index_test stated near next figure Variance = both (term_at events version line time near Variance) (term_at events version line time next Variance)
   index_test stated near next figure Square = square (scale_of version) (DAY_MINUTES * days) near.minutes next.minutes near.w next.w figure.x
-  index_test stated near next figure IndexEnds = index_ends (scale_of version) figure
+  index_test stated near next figure IndexEnds = index_ends_are_decided (scale_of version) figure
 
   -- kind single
   single_test : (term : CertTerm) (figure : CertFigure) (test : Test) → IsDecided (SingleMeets events version line time term figure test)
@@ -86,7 +86,7 @@ module _ (days window : ℕ) (events : List Event) (version line time : ℕ) whe
   single_test term figure Total = term_at events version line time term Total
   single_test term figure Variance = term_at events version line time term Variance
   single_test term figure Square = single_square (scale_of version) term.w figure.x
-  single_test term figure IndexEnds = index_ends (scale_of version) figure
+  single_test term figure IndexEnds = index_ends_are_decided (scale_of version) figure
 
   -- kind soq
   soq_test : (term : CertTerm) (figure : CertFigure) (test : Test) → IsDecided (SoqMeets events version line time term figure test)
@@ -105,7 +105,7 @@ module _ (days window : ℕ) (events : List Event) (version line time : ℕ) whe
   soq_test term figure Total = opening_term_at events version term Total
   soq_test term figure Variance = opening_term_at events version term Variance
   soq_test term figure Square = single_square (scale_of version) term.w figure.x
-  soq_test term figure IndexEnds = index_ends (scale_of version) figure
+  soq_test term figure IndexEnds = index_ends_are_decided (scale_of version) figure
 
   -- kind k0
   level_test : (x : Expiry) (pair : CertPair) (k0 : ℕ) (test : Test) → IsDecided (K0Meets events version line time x pair k0 test)

@@ -6,7 +6,7 @@ use Rattle.vx_drivers.specs.declared.exit.Exit.{Exit}
 use Rattle.vx_drivers.specs.PositionRun.{PositionRules, RunsPositions, positions_of}
 use Rattle.vx_drivers.specs.TickRun.{TickRules, RunsTicks}
 use Rattle.vx_cli.specs.CheckRuns.{Checks}
-use Rattle.vx_cli.specs.ExitText.{Text}
+use Rattle.vx_drivers.specs.Sending.{Text}
 use Rattle.vx_cli.specs.ReplayRuns.{GivesAnswer, replay_rules}
 use Rattle.vx_cli.specs.ReplayText.{Answered}
 use Rattle.vx_cli.specs.SettleRuns.{AnsweredOpening, IsAnsweredOpening, settle_rules}

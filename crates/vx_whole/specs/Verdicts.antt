@@ -6,8 +6,8 @@ use Rattle.vx_cert.specs.declared.certificate.Certificate.{Certificate}
 use Rattle.vx_claims.specs.declared.acceptance.Test.{Test}
 use Rattle.vx_claims.specs.Accepts.{Accepts, FirstFailing, IsVersion, Meets}
 use Rattle.vx_drivers.specs.Answers.{Answer}
-use Rattle.vx_cli.specs.CheckRuns.{IsVerdict, ReadsOrSays}
-use Rattle.vx_cli.specs.ExitText.{Text}
+use Rattle.vx_cli.specs.CheckRuns.{IsAnswerTo, ReadsOrSays}
+use Rattle.vx_drivers.specs.Sending.{Text}
 
 -- a certificate of either version is accepted over some events, or one of its tests is the first that fails
 abbrev pub EveryCertificateIsJudged : Type 0
@@ -17,7 +17,7 @@ EveryCertificateIsJudged = (events : List Event) (c : Certificate) → IsVersion
 -- over lawful events it has a verdict: a yes, and then it means what it states, or a no with the first test that fails
 abbrev pub EveryCertificateHasVerdict : Type 0
 EveryCertificateHasVerdict = (events : List Event) (c : Certificate) → AreLawful events → IsVersion c.v →
-    (answer : Answer) × IsVerdict events c answer
+    (answer : Answer) × IsAnswerTo events c answer
 
 -- a line, whatever its bytes, is read as a certificate, or there is a word for why it is none
 abbrev pub EveryLineIsRead : Type 0

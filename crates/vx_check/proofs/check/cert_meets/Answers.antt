@@ -1,8 +1,6 @@
-use Rattle.std.proofs.Common.{◌≡◌, ◌↔◌, ℕ, ◌<◌, List, IsTrue, sym, subst}
+use Rattle.std.proofs.Common.{◌↔◌, IsTrue, sym, subst}
 use Rattle.vx_clock.specs.declared.limits.TheConstants.{INDEX_DAYS, INDEX_WINDOW}
-use Rattle.vx_feed.specs.declared.events.Event.{Event}
 use Rattle.vx_cert.specs.declared.certificate.CertBody.{CertBody}
-use Rattle.vx_claims.specs.declared.acceptance.Test.{Test}
 use Rattle.vx_claims.specs.Accepts.{scale_of, BodyMeets}
 use Rattle.vx_check.specs.Answers.{AreMetBefore, BodyMeetsAsIndex}
 use Rattle.vx_check.specs.Numbers.{BodyNumbersMeet, IndexNumbersMeet}

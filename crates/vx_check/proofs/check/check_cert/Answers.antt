@@ -1,9 +1,7 @@
-use Rattle.std.proofs.Common.{◌≡◌, ℕ, ◌<◌, List, length, IsTrue, false, true, refl, sym, ◌∙◌, arith}
-use Rattle.vx_feed.specs.declared.events.Event.{Event}
-use Rattle.vx_claims.specs.declared.acceptance.Test.{Test}
+use Rattle.std.proofs.Common.{◌≡◌, IsTrue, false, true, refl, sym, ◌∙◌, arith}
 use Rattle.vx_claims.specs.Test.{test_number}
 use Rattle.vx_claims.specs.Accepts.{scale_of, Meets}
-use Rattle.vx_check.specs.declared.verdict.Verdict.TheVariants.{Yes, No}
+use Rattle.vx_check.specs.declared.verdict.Verdict.TheVariants.{Yes}
 use Rattle.vx_check.specs.Numbers.{BodyNumbersMeet}
 use Rattle.vx_check.specs.Reached.{IsReached}
 use Rattle.vx_check.proofs.Verdicts.{first_number, met_one_further, fails_at, all_met}

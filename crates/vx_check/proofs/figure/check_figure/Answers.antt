@@ -1,10 +1,9 @@
-use Rattle.std.proofs.Common.{◌≡◌, ℕ, ◌<◌, ◌≤◌, IsTrue, false, true, sym, subst, ◌∙◌, arith}
+use Rattle.std.proofs.Common.{◌≡◌, ℕ, IsTrue, false, true, sym, subst, ◌∙◌, arith}
 use Rattle.vx_claims.specs.declared.acceptance.Test.{Test}
 use Rattle.vx_claims.specs.declared.acceptance.Test.TheVariants.{Square, IndexEnds}
-use Rattle.vx_claims.specs.Test.{test_number}
 use Rattle.vx_claims.specs.FigureTests.{EnclosesIndex}
-use Rattle.vx_claims.specs.Accepts.{scale_of, FigureMeets}
-use Rattle.vx_tests.proofs.Numbered.{same_test}
+use Rattle.vx_claims.specs.Accepts.{FigureMeets}
+use Rattle.vx_claims.proofs.TestNumbers.{same_test}
 use Rattle.vx_check.proofs.figure.check_figure.Goals as goal
 
 pub returns-then-not-encloses_joined_square : goal.returns-then-not-encloses_joined_square

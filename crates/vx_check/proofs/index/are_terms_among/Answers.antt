@@ -1,4 +1,4 @@
-use Rattle.std.proofs.Common.{◌≡◌, ℕ, ◌<◌, List, length, Option, Some, None, IsSomeAnd, ◌∙◌, ap, refl, subst}
+use Rattle.std.proofs.Common.{◌≡◌, Option, Some, None, IsSomeAnd, ◌∙◌, ap, refl, subst}
 use Rattle.std.specs.List.{slice_get}
 use Rattle.std.proofs.lemmas.Option.{same_Some}
 use Rattle.vx_clock.specs.declared.terms.Expiry.{Expiry}

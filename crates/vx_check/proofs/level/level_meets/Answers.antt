@@ -1,4 +1,4 @@
-use Rattle.std.proofs.Common.{◌≡◌, ◌↔◌, ℕ, ◌<◌, IsTrue, List, Some, pos, sym, subst, ◌∙◌, ap, arith}
+use Rattle.std.proofs.Common.{◌≡◌, ◌↔◌, IsTrue, List, sym, subst, ◌∙◌, ap, arith}
 use Rattle.vx_symbol.specs.declared.rows.StrikeRow.{StrikeRow}
 use Rattle.vx_formula.specs.Pair.{IsClosestPair}
 use Rattle.vx_claims.specs.declared.acceptance.Test.{Test}

@@ -1,4 +1,4 @@
-use Rattle.std.proofs.Common.{◌≡◌, ◌↔◌, ℕ, IsTrue, false, true, sym, subst}
+use Rattle.std.proofs.Common.{◌≡◌, ◌↔◌, ℕ, IsTrue, sym, subst}
 use Rattle.vx_formula.specs.declared.limits.TheConstants.{THIRTY_DAYS}
 use Rattle.vx_formula.specs.Level.{StrikesRise}
 use Rattle.vx_formula.specs.Term.{TermFacts}

@@ -1,11 +1,10 @@
-use Rattle.std.proofs.Common.{◌≡◌, ℕ, ◌<◌, ◌≤◌, IsTrue, ap, arith}
-use Rattle.vx_claims.specs.declared.acceptance.Test.{Test}
+use Rattle.std.proofs.Common.{◌≡◌, ap, arith}
 use Rattle.vx_claims.specs.declared.acceptance.Test.TheVariants.{Place, Terms, Variance, Square}
 use Rattle.vx_claims.specs.Test.{test_number}
-use Rattle.vx_claims.specs.Accepts.{scale_of, SoqMeets}
+use Rattle.vx_claims.specs.Accepts.{scale_of}
 use Rattle.vx_tests.proofs.TermRanges.{variance_range}
 use Rattle.vx_check.specs.Reached.{IsAtOpening}
-use Rattle.vx_check.proofs.EachKind.{later_test, second_test, no_square, soq_rest}
+use Rattle.vx_check.proofs.EachKind.{second_test, no_square, soq_rest}
 use Rattle.vx_check.proofs.soq.soq_meets.Goals as goal
 
 -- ---- the ranges that earlier tests gave

@@ -1,5 +1,4 @@
-use Rattle.std.proofs.Common.{◌≡◌, ℕ, ◌<◌, ◌≤◌, List, IsTrue, false, true, sym, ◌∙◌, arith}
-use Rattle.vx_claims.specs.declared.acceptance.Test.{Test}
+use Rattle.std.proofs.Common.{◌≡◌, IsTrue, false, true, sym, ◌∙◌, arith}
 use Rattle.vx_claims.specs.declared.acceptance.Test.TheVariants.{Exponential}
 use Rattle.vx_claims.specs.Test.{test_number}
 use Rattle.vx_claims.specs.Accepts.{scale_of, TermMeetsAt}

@@ -1,6 +1,5 @@
-use Rattle.std.proofs.Common.{◌≡◌, ℕ, ℤ, List, Option, ◌∙◌}
+use Rattle.std.proofs.Common.{◌≡◌, ◌∙◌}
 use Rattle.vx_clock.specs.Minutes.{minutes_between}
-use Rattle.vx_symbol.specs.declared.rows.StrikeRow.{StrikeRow}
 use Rattle.vx_feed.specs.Standing.{standing_rate}
 use Rattle.vx_feed.specs.Listed.{listed_rows}
 use Rattle.vx_claims.specs.Seen.{events_before}

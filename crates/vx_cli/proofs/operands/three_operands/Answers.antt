@@ -4,7 +4,7 @@ use Rattle.clap.specs.Words.{HasKind, app_of, first_of, is_simple, is_simple_and
 use Rattle.clap.specs.declared.error.kind.ErrorKind.TheVariants.{OutOfMemory}
 use Rattle.clap.proofs.OnLiterals.{clap_on_literals}
 use Rattle.vx_cli.specs.Operands.{all_three, three_operand_app}
-use Rattle.vx_cli.specs.Words.{Text}
+use Rattle.vx_drivers.specs.Sending.{Text}
 use Rattle.vx_cli.proofs.OperandLemmas.{refused-three, taken-three}
 use Rattle.vx_cli.proofs.operands.three_operands.Goals as goal
 

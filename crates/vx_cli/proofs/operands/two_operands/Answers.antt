@@ -4,7 +4,7 @@ use Rattle.clap.specs.Words.{HasKind, app_of, first_of, is_simple, is_simple_and
 use Rattle.clap.specs.declared.error.kind.ErrorKind.TheVariants.{OutOfMemory}
 use Rattle.clap.proofs.OnLiterals.{clap_on_literals}
 use Rattle.vx_cli.specs.Operands.{two_operand_app}
-use Rattle.vx_cli.specs.Words.{Text}
+use Rattle.vx_drivers.specs.Sending.{Text}
 use Rattle.vx_cli.proofs.OperandLemmas.{taken-two, refused-two, texts-zip}
 use Rattle.vx_cli.proofs.operands.two_operands.Goals as goal
 

@@ -1,4 +1,3 @@
-use Rattle.std.proofs.Common.{refl}
 use Rattle.vx_reading.specs.FeedReading.{feed_told}
 use Rattle.vx_drivers.proofs.TickRunLemmas.{never_started}
 use Rattle.vx_cli.specs.ReplayRuns.{replay_rules}

@@ -1,8 +1,9 @@
 use Rattle.std.proofs.Common.{rules, ◌≡◌, ◌∙◌, ap, true, false, IfOk, map, option_map, string_bytes, List, ◌∷◌, sym, subst}
 use Rattle.std.proofs.lemmas.List.Folds.{list_all-map}
 use Rattle.std.specs.List.{list_all}
+use Rattle.vx_drivers.specs.Sending.{Text}
 use Rattle.vx_cli.specs.Requests.{asked}
-use Rattle.vx_cli.specs.Words.{Text, command_of, is_plain_word, named_form}
+use Rattle.vx_cli.specs.Words.{command_of, is_plain_word, named_form}
 use Rattle.vx_cli.proofs.RequestLemmas.{command-refused, command-plain, plain-rest}
 use Rattle.vx_cli.proofs.request.read_request.Goals as goal
 

@@ -1,5 +1,5 @@
 use Rattle.std.proofs.Common.{◌∙◌, ◌≤◌, ◌*◌, ◌-◌, pos, ℤ, ◌-ℤ◌, ◌<ℤ◌, sym, subst, arith, rules}
-use Rattle.vx_interval.specs.Ends.{IsInRange}
+use Rattle.vx_interval.specs.Ends.{IsIntervalInRange}
 use Rattle.vx_interval.proofs.Ranges.{cast_is}
 use Rattle.vx_term.proofs.Weights.{given, scaled_given_range, mixed_given, year_given, over_given, near_scaled_range, next_scaled_range, mixed_range, year_range, square_range, square_encloses, den_positive}
 use Rattle.vx_term.proofs.Widths.{interpolated_narrow}
@@ -26,7 +26,7 @@ add-requires g c =
     let near = given c.minutes_from.result (pos c.args.n2 -ℤ pos (1440 * c.args.days)) c.minutes_from.type_inv c.minutes_from.ensures in
     let next = given c.minutes_from-2.result (pos (1440 * c.args.days) -ℤ pos c.args.n1) c.minutes_from-2.type_inv c.minutes_from-2.ensures in
     let mix = mixed_given c.scale-near.result c.scale-next.result c.args.w1.now c.args.w2.now _ _ _ _ c.scale-near.ensures.ends near c.scale-next.ensures.ends next in
-    (search rules, subst IsInRange (sym mix) (mixed_range g.row.P c.args.w1.now c.args.w2.now c.args.n1 c.args.n2 (1440 * c.args.days) c.requires.rising c.requires.next_minutes.1 ahead c.requires.weights c.requires.near_range c.requires.next_range c.requires.near_interval.scale))
+    (search rules, subst IsIntervalInRange (sym mix) (mixed_range g.row.P c.args.w1.now c.args.w2.now c.args.n1 c.args.n2 (1440 * c.args.days) c.requires.rising c.requires.next_minutes.1 ahead c.requires.weights c.requires.near_range c.requires.next_range c.requires.near_interval.scale))
 
 pub scale-year-requires : goal.scale-year-requires
 scale-year-requires g c =
@@ -37,7 +37,7 @@ scale-year-requires g c =
     let mix = mixed_given c.scale-near.result c.scale-next.result c.args.w1.now c.args.w2.now _ _ _ _ c.scale-near.ensures.ends near c.scale-next.ensures.ends next in
     let year = given c.year_minutes.result (pos 525600) c.year_minutes.type_inv c.year_minutes.ensures in
     let whole_year = year_given c.add.result _ _ (c.add.ensures.ends ∙ mix) year in
-    (search rules, subst IsInRange (sym whole_year) (year_range g.row.P c.args.w1.now c.args.w2.now c.args.n1 c.args.n2 (1440 * c.args.days) c.requires.rising c.requires.next_minutes.1 ahead c.requires.weights c.requires.near_range c.requires.next_range c.requires.near_interval.scale))
+    (search rules, subst IsIntervalInRange (sym whole_year) (year_range g.row.P c.args.w1.now c.args.w2.now c.args.n1 c.args.n2 (1440 * c.args.days) c.requires.rising c.requires.next_minutes.1 ahead c.requires.weights c.requires.near_range c.requires.next_range c.requires.near_interval.scale))
 
 pub over-requires : goal.over-requires
 over-requires g c =

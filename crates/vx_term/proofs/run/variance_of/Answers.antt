@@ -1,5 +1,5 @@
 use Rattle.std.proofs.Common.{◌∙◌, pos, ◌≤ℤ◌, sym, subst, rules}
-use Rattle.vx_interval.specs.Ends.{Ends, IsInRange, scale_ends}
+use Rattle.vx_interval.specs.Ends.{Ends, IsIntervalInRange, scale_ends}
 use Rattle.vx_term.proofs.Variances.{product_small, square_small, twice_range, variance_low, variance_high, variance_range, variance_encloses, variance_given}
 use Rattle.vx_term.proofs.run.variance_of.Goals as goal
 
@@ -10,7 +10,7 @@ pub scale-twice-requires : goal.scale-twice-requires
 scale-twice-requires g c =
     let is = c.mul-product.ensures.ends in
     let ordered = subst (λ (x : Ends). x.lo ≤ℤ x.hi) is c.mul-product.ensures.interval.ordered in
-    (search rules, subst (λ (x : Ends). IsInRange (scale_ends x (pos 2))) (sym is) (twice_range g.row.P c.requires.exponential.interval.scale c.args.e.now c.args.total.now c.args.excess.now c.requires.exponential c.requires.exponential.interval.ordered c.requires.total c.requires.total_interval.ordered c.requires.excess c.requires.excess_interval.ordered ordered))
+    (search rules, subst (λ (x : Ends). IsIntervalInRange (scale_ends x (pos 2))) (sym is) (twice_range g.row.P c.requires.exponential.interval.scale c.args.e.now c.args.total.now c.args.excess.now c.requires.exponential c.requires.exponential.interval.ordered c.requires.total c.requires.total_interval.ordered c.requires.excess c.requires.excess_interval.ordered ordered))
 
 pub square-square-requires : goal.square-square-requires
 square-square-requires g c = (search rules, square_small g.row.P c.requires.exponential.interval.scale c.args.e.now c.args.total.now c.args.excess.now c.requires.exponential c.requires.exponential.interval.ordered c.requires.total c.requires.total_interval.ordered c.requires.excess c.requires.excess_interval.ordered)
@@ -20,7 +20,7 @@ sub-requires g c =
     let first = subst (λ (x : Ends). x.lo ≤ℤ x.hi) c.mul-product.ensures.ends c.mul-product.ensures.interval.ordered in
     let second = subst (λ (x : Ends). x.lo ≤ℤ x.hi) c.square-square.ensures.ends c.square-square.ensures.interval.ordered in
     let is = variance_given g.row.P c.args.e.now c.args.total.now c.args.excess.now c.mul-product.result c.scale-twice.result c.square-square.result c.mul-product.ensures.ends c.scale-twice.ensures.ends c.square-square.ensures.ends in
-    (search rules, subst IsInRange (sym is) (variance_range g.row.P c.requires.exponential.interval.scale c.args.e.now c.args.total.now c.args.excess.now c.requires.exponential c.requires.exponential.interval.ordered c.requires.total c.requires.total_interval.ordered c.requires.excess c.requires.excess_interval.ordered first second))
+    (search rules, subst IsIntervalInRange (sym is) (variance_range g.row.P c.requires.exponential.interval.scale c.args.e.now c.args.total.now c.args.excess.now c.requires.exponential c.requires.exponential.interval.ordered c.requires.total c.requires.total_interval.ordered c.requires.excess c.requires.excess_interval.ordered first second))
 
 pub returns-clause-ends : goal.returns-clause-ends
 returns-clause-ends g c =

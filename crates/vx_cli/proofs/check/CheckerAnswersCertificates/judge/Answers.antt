@@ -1,4 +1,3 @@
-use Rattle.std.proofs.Common.{rules}
 use Rattle.vx_cli.proofs.JudgeLemmas.{said_no_is, said_yes_is}
 use Rattle.vx_cli.proofs.check.CheckerAnswersCertificates.judge.Goals as goal
 

@@ -1,9 +1,9 @@
-use Rattle.vx_cli.proofs.DrillLemmas.{counted_few, counts_more, room_for_line}
+use Rattle.vx_cli.proofs.DrillLemmas.{counted_few, counts_more, room_for_counted_line}
 use Rattle.vx_cli.proofs.drill.CountedReplay.step.Goals as goal
 
 pub count-requires-clause-room : goal.count-requires-clause-room
 count-requires-clause-room c =
-    let some = c.requires.lawful in room_for_line some.0 c.args.event c.args.self.now.counts some.2 some.1.counted
+    let some = c.requires.lawful in room_for_counted_line some.0 c.args.event c.args.self.now.counts some.2 some.1.counted
 
 pub count-requires-clause-few : goal.count-requires-clause-few
 count-requires-clause-few c = let some = c.requires.lawful in counted_few some.0 c.args.self.now.counts some.1.counted

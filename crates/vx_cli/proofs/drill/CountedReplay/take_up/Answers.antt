@@ -1,7 +1,7 @@
 -- A line that is no tick is counted, and gives no answer.
 use Rattle.std.proofs.Common.{◌∙◌, sym, add-zero}
 use Rattle.vx_cli.proofs.AnswerLemmas.{is_no_tick}
-use Rattle.vx_cli.proofs.DrillLemmas.{counts_quiet, room_for_line}
+use Rattle.vx_cli.proofs.DrillLemmas.{counts_quiet, room_for_counted_line}
 use Rattle.vx_cli.proofs.drill.CountedReplay.take_up.Goals as goal
 
 pub take_up-requires-clause-no_tick : goal.take_up-requires-clause-no_tick
@@ -10,7 +10,7 @@ take_up-requires-clause-no_tick c = is_no_tick c.args.event c.requires.no_tick
 pub count_line-requires : goal.count_line-requires
 count_line-requires c =
     let some = c.requires.lawful in
-    record { room = room_for_line some.0 c.args.event c.args.self.now.counts some.2 some.1.counted }
+    record { room = room_for_counted_line some.0 c.args.event c.args.self.now.counts some.2 some.1.counted }
 
 pub returns-clause-taken : goal.returns-clause-taken
 returns-clause-taken c = λ events h next. let old = c.args.self.now.counts in record {

@@ -8,7 +8,7 @@ use Rattle.vx_drivers.specs.Answers.{answer_of, answer_text, count_no, count_yes
 use Rattle.vx_drivers.specs.CertificateSteps.{next_text}
 use Rattle.vx_drivers.specs.Exits.{calls_in}
 use Rattle.vx_drivers.specs.Sending.{SendsOr}
-use Rattle.vx_drivers.proofs.CertificateLemmas.{answer_sent, count_both, no_more, out_of_memory, yes_more}
+use Rattle.vx_drivers.proofs.CertificateLemmas.{answer_sent, counts_add_up, no_more, out_of_memory, yes_more}
 use Rattle.vx_drivers.proofs.ExitLemmas.{feed_not_out, out_not_feed, side_not_feed, side_not_out}
 use Rattle.vx_drivers.proofs.check_run.CheckRun.answer_line.Goals as goal
 
@@ -22,7 +22,7 @@ pub returns-clause-answers : goal.returns-clause-answers
 returns-clause-answers g c = λ held feed stand between.
     let come = c.in-Ok.ensures.comes held feed stand between in
     let answer = answer_of c.in-Ok.yes c.answer.new.self.words.items in
-    let both = count_both stand.answers in
+    let both = counts_add_up stand.answers in
     let yes_is : c.answer.new.self.yes ≡ count_yes stand.answers = (c.in-Ok.ensures.kept).0 ∙ between.yes in
     let no_is : c.answer.new.self.no ≡ count_no stand.answers = (c.in-Ok.ensures.kept).1 ∙ between.no in
     let feed_is : c.write.new.self.feed ≡ c.answer.new.self.feed = (c.in-Ok-write.ensures.kept).0 in

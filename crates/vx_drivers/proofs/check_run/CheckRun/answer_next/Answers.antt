@@ -8,7 +8,7 @@ use Rattle.vx_drivers.specs.CertificateSteps.{EndsAtLine, SendsAnswer, allowed, 
 use Rattle.vx_desk.proofs.CallLemmas.{step_after}
 use Rattle.vx_reading.proofs.FeedLemmas.{at_kept}
 use Rattle.vx_drivers.specs.Exits.{exit_calls}
-use Rattle.vx_drivers.proofs.FailureLemmas.{line_read}
+use Rattle.vx_drivers.proofs.FailureLemmas.{side_line_read}
 use Rattle.vx_drivers.proofs.ExitLemmas.{feed_not_side, out_not_side}
 use Rattle.vx_drivers.proofs.RunLemmas.{allowed_ended, allowed_none, allowed_step, answered_on, between_kept, cert_bad_at, cut_at_lines, line_ended, takes_bytes, takes_cut, takes_is, takes_long, takes_no_bytes, takes_none, way_kept}
 use Rattle.vx_drivers.proofs.check_run.CheckRun.answer_next.Goals as goal
@@ -95,5 +95,5 @@ returns-in-Err-clause-goes g c = λ held feed certs before way.
 pub returns-in-Err-clause-step : goal.returns-in-Err-clause-step
 returns-in-Err-clause-step g c =
     step_after (exit_calls c.in-Err.exit) (g.D.Desk.told c.args.desk.now) (g.D.Desk.told c.next.new.desk) (g.D.Desk.told c.answer_line.new.desk)
-    (line_read c.args.certs.now.slot (g.D.Desk.told c.args.desk.now) (g.D.Desk.told c.next.new.desk) c.requires.reader.slot_is c.in-Ok-Some.ensures.counts c.in-Ok-Some.ensures.rest c.in-Ok-Some.ensures.others)
+    (side_line_read c.args.certs.now.slot (g.D.Desk.told c.args.desk.now) (g.D.Desk.told c.next.new.desk) c.requires.reader.slot_is c.in-Ok-Some.ensures.counts c.in-Ok-Some.ensures.rest c.in-Ok-Some.ensures.others)
     c.in-Err.ensures.step

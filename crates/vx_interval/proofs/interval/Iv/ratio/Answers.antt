@@ -1,6 +1,6 @@
 use Rattle.std.proofs.Common.{◌≡◌, ◌∙◌, ◌*ℤ◌, sym, subst, arith, rules}
 use Rattle.std.proofs.lemmas.Int.{ints}
-use Rattle.vx_interval.specs.Ends.{IsInRange, unit, rounded_ends}
+use Rattle.vx_interval.specs.Ends.{IsIntervalInRange, unit, rounded_ends}
 use Rattle.vx_interval.proofs.Enclosures.{ratio_encloses}
 use Rattle.vx_interval.proofs.Widths.{ratio_width}
 use Rattle.vx_interval.proofs.Ranges.{cast, rounded_same, products_same, product_small_same, ratio_small}
@@ -17,7 +17,7 @@ rounded-requires g c =
     c.product-scaled.ensures ∙ products_same (cast c.args.num) (cast c.power_of_two.result) c.args.num (unit g.row.P) (omega (arith, ints)) (omega (arith, ints)) in
     let s : rounded_ends (cast c.product-scaled.result) (cast c.product-scaled.result) (cast c.args.den) ≡ rounded_ends (c.args.num *ℤ unit g.row.P) (c.args.num *ℤ unit g.row.P) c.args.den =
     rounded_same _ _ _ _ _ _ (omega (arith, ints)) (omega (arith, ints)) (omega (arith, ints)) in
-    (search rules, (search rules, (omega (arith, ints), (omega (arith, ints), subst IsInRange (sym s) c.requires.in_range))))
+    (search rules, (search rules, (omega (arith, ints), (omega (arith, ints), subst IsIntervalInRange (sym s) c.requires.in_range))))
 
 pub returns-clause-ends : goal.returns-clause-ends
 returns-clause-ends g c =

@@ -1,7 +1,7 @@
 use Rattle.std.proofs.Common.{◌≡◌, ◌≤◌, length, None, arith}
-use Rattle.vx_reading.specs.Stops.{stop_calls}
+use Rattle.vx_reading.specs.Stops.{feed_stop_calls}
 use Rattle.vx_desk.proofs.CallLemmas.{step_after}
-use Rattle.vx_reading.proofs.RunLemmas.{one_more, still_read}
+use Rattle.vx_reading.proofs.RunLemmas.{takes_one_more, still_read}
 use Rattle.vx_reading.proofs.FeedLemmas.{stays_read, found_is, reads_on, read_all, read_so_many}
 use Rattle.vx_reading.proofs.feed.FeedReader.read_to.Goals as goal
 
@@ -14,7 +14,7 @@ returns-in-Err-clause-reads g c = λ held whole events start within.
 
 pub returns-in-Err-clause-step : goal.returns-in-Err-clause-step
 returns-in-Err-clause-step g c =
-    let step = step_after (stop_calls c.in-Err.stop) (g.D.Desk.told c.args.desk.now) (g.D.Desk.told c.loop.desk) (g.D.Desk.told c.read_next.new.desk) c.loop.invariant.step c.in-Err.ensures.step in
+    let step = step_after (feed_stop_calls c.in-Err.stop) (g.D.Desk.told c.args.desk.now) (g.D.Desk.told c.loop.desk) (g.D.Desk.told c.read_next.new.desk) c.loop.invariant.step c.in-Err.ensures.step in
     record { failures = step.failures; slots = step.slots }
 
 pub returns-in-Ok-None-clause-reads : goal.returns-in-Ok-None-clause-reads
@@ -29,7 +29,7 @@ returns-in-Ok-None-clause-reads g c = λ held whole events start within.
 pub loop-preserved : goal.loop-preserved
 loop-preserved g c =
     let told = g.D.Desk.told in
-    one_more g.T.TakesEvents.StandsFor c.args.self.now (told c.args.desk.now) c.loop.self (told c.loop.desk) c.read_next.new.self (told c.read_next.new.desk) c.loop.counter c.in-Ok-Some._event c.in-Ok-Some.field-0
+    takes_one_more g.T.TakesEvents.StandsFor c.args.self.now (told c.args.desk.now) c.loop.self (told c.loop.desk) c.read_next.new.self (told c.read_next.new.desk) c.loop.counter c.in-Ok-Some._event c.in-Ok-Some.field-0
     c.loop.invariant c.in-Ok-Some.field-0-is c.in-Ok-Some.ensures.reads (record { failures = c.in-Ok-Some.ensures.step.failures; slots = c.in-Ok-Some.ensures.step.slots }) c.in-Ok-Some.ensures.others
     c.in-Ok-Some.ensures.comes_on c.in-Ok-Some.ensures.same
 

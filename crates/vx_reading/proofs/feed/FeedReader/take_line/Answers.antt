@@ -1,5 +1,5 @@
 use Rattle.std.proofs.lemmas.Result.{err_from_is_err_and}
-use Rattle.vx_reading.proofs.NextLemmas.{bad_line_read, line_read, taken_with}
+use Rattle.vx_reading.proofs.NextLemmas.{bad_line_read, feed_line_read, taken_with}
 use Rattle.vx_reading.proofs.feed.FeedReader.take_line.Goals as goal
 
 pub returns-in_err-event-clause-takes : goal.returns-in_err-event-clause-takes
@@ -11,5 +11,5 @@ returns-in_err-event-clause-takes g c = λ told held whole events at.
 pub returns-clause-takes : goal.returns-clause-takes
 returns-clause-takes g c = λ told held whole events at.
     let says = c.in_ok-event.ensures events at.taken_up.order in
-    line_read g.T.TakesEvents.StandsFor held whole events c.in_ok-event.event c.fields.result c.args.self.now c.push.new.self c.take.new.self told at c.fields.ensures c.take.ensures.taken c.push.ensures.ahead says.0
+    feed_line_read g.T.TakesEvents.StandsFor held whole events c.in_ok-event.event c.fields.result c.args.self.now c.push.new.self c.take.new.self told at c.fields.ensures c.take.ensures.taken c.push.ensures.ahead says.0
     (c.in_ok-push.ensures.taken events (taken_with g.T.TakesEvents.StandsFor c.args.self.now c.take.new.self events at.taken_up) says.1)
