@@ -1,0 +1,2 @@
+-- How long the texts of numbers are.
+pub mod Lengths
