@@ -1,6 +1,9 @@
--- Lines that are written in two parts.
-use Rattle.std.proofs.Common.{◌≡◌, ◌∙◌, sym, ap, List, [], ◌∷◌, ◌++◌, Result, Ok, Err, append_assoc}
-use Rattle.std.specs.Prelude.{OnOk}
+-- Lines that are written in parts.
+use Rattle.std.proofs.Common.{◌≡◌, ◌∙◌, sym, ap, subst, ℕ, ◌≤◌, ℤ, List, [], ◌∷◌, ◌++◌, length, Result, Ok, Err, append_assoc, to_z, of_z, to_z-of_z, w64}
+use Rattle.std.specs.Prelude.{FitsSigned, OnOk}
+use Rattle.std.specs.Int.{w128}
+use Rattle.vx_num.specs.Written.{signed_text}
+use Rattle.vx_room.proofs.Lengths.{narrow_signed_short, wide_signed_short}
 use Rattle.vx_drivers.specs.Sending.{Text}
 use Rattle.vx_cli.specs.OutputLines.{comma_separated, line_of}
 
@@ -23,3 +26,15 @@ pub line_more : (old mid : Text) (x : Text) (xs : List Text) (y : Text) (ys : Li
 line_more old mid x xs y ys is =
     ap (λ t. t ++ 44 ∷ line_of (y ∷ ys)) is ∙ append_assoc old (comma_separated (x ∷ xs)) (44 ∷ line_of (y ∷ ys))
     ∙ ap (λ t. old ++ t) (pieces_more x xs y ys)
+
+-- a piece in front of the pieces of a line that stand behind a comma
+pub piece_before : (x y : Text) (ys : List Text) (rest : Text) → rest ≡ 44 ∷ line_of (y ∷ ys) → x ++ rest ≡ line_of (x ∷ y ∷ ys)
+piece_before x y ys rest is = ap (λ t. x ++ t) is ∙ pieces_more x [] y ys
+
+-- ---- numbers as calls are given them have room
+
+pub narrow_given_short : (z : ℤ) (places : ℕ) → FitsSigned w64 z → places ≤ 12 → length (signed_text (to_z w64 (of_z w64 z)) places) ≤ 21
+narrow_given_short z places fits p = subst (λ y. length (signed_text y places) ≤ 21) (sym (to_z-of_z {w = w64} fits)) (narrow_signed_short z places fits p)
+
+pub wide_given_short : (z : ℤ) (places : ℕ) → FitsSigned w128 z → places ≤ 12 → length (signed_text (to_z w128 (of_z w128 z)) places) ≤ 41
+wide_given_short z places fits p = subst (λ y. length (signed_text y places) ≤ 41) (sym (to_z-of_z {w = w128} fits)) (wide_signed_short z places fits p)

@@ -1,6 +1,6 @@
 -- How output lines are written. This project's own format.
-use Rattle.std.specs.Prelude.{ℕ, suc, ℤ, pos, negsuc, List, [], ◌∷◌, ◌++◌}
-use Rattle.vx_num.specs.Written.{decimal_text}
+use Rattle.std.specs.Prelude.{ℕ, ℤ, List, [], ◌∷◌, ◌++◌}
+use Rattle.vx_num.specs.Written.{decimal_text, signed_text}
 use Rattle.vx_drivers.specs.Sending.{Text}
 
 -- pieces with commas (44) between
@@ -16,11 +16,6 @@ line_of pieces = comma_separated pieces ++ 10 ∷ []
 -- a count
 abbrev pub count_text : ℕ → Text
 count_text n = decimal_text n 0
-
--- a number over 10 ^ places, with a `-` (45) in front where it is below zero
-abbrev pub signed_text : ℤ → ℕ → Text
-signed_text (pos n) places = decimal_text n places
-signed_text (negsuc n) places = 45 ∷ decimal_text (suc n) places
 
 -- a strike in points, of thousandths
 abbrev pub strike_text : ℕ → Text

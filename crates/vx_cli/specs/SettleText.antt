@@ -1,6 +1,7 @@
 -- What `settle` writes: the opening figure, and what each position settles to. This project's own format.
 use Rattle.std.specs.Prelude.{ℕ, ℤ, pos, List, [], ◌∷◌, ◌++◌, length, codes, Option, Some, None}
 use Rattle.vx_clock.specs.Clock.{clock_text}
+use Rattle.vx_num.specs.Written.{signed_text}
 use Rattle.vx_cert.specs.Written.{certificate_text}
 use Rattle.vx_settle.specs.declared.position.Contract.{Contract}
 use Rattle.vx_settle.specs.declared.position.Contract.TheVariants.{Vx, Vxm}
@@ -11,7 +12,7 @@ use Rattle.vx_soq.specs.declared.answer.OpeningAnswer.TheVariants.{Published, Re
 use Rattle.vx_soq.specs.declared.answer.SoqReason.{SoqReason}
 use Rattle.vx_soq.specs.declared.answer.SoqReason.TheVariants.{NoOpening, NoTerm, Term, NegativeVariance}
 use Rattle.vx_drivers.specs.Sending.{Text}
-use Rattle.vx_cli.specs.OutputLines.{line_of, count_text, signed_text, strike_text, cents_text, index_end_text, forward_end_text}
+use Rattle.vx_cli.specs.OutputLines.{line_of, count_text, strike_text, cents_text, index_end_text, forward_end_text}
 use Rattle.vx_cli.specs.ReplayText.{refusal_word}
 
 abbrev pub opening_reason_word : SoqReason → Text

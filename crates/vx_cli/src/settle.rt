@@ -118,7 +118,7 @@ impl SettlesPositions for Settlement {
             None => return Ok(None),
         };
         let amount = amount(figure, &position);
-        push_position(self.alloc, line, count + 1, &position, amount)?;
+        push_position(line, count + 1, &position, amount)?;
         self.add(amount);
         Ok(None)
     }

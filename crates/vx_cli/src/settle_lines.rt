@@ -1,17 +1,19 @@
 //! The lines that `settle` writes.
 
-ghost use Rattle.std.specs.Prelude.{◌≡◌, ◌++◌, ◌≤◌, [], ◌∷◌, codes, pos, OnOk};
+ghost use Rattle.std.specs.Prelude.{◌≡◌, ◌+◌, ◌++◌, ◌≤◌, [], ◌∷◌, codes, drop, OnOk};
+ghost use Rattle.vx_num.specs.Written.{signed_text};
 ghost use Rattle.vx_soq.specs.Written.{CanBeWritten};
-ghost use Rattle.vx_cli.specs.OutputLines.{comma_separated, count_text, line_of, signed_text};
+ghost use Rattle.vx_cli.specs.OutputLines.{comma_separated, count_text, line_of};
 ghost use Rattle.vx_cli.specs.ReadBack.{OpeningCertificateIsRead};
 ghost use Rattle.vx_cli.specs.SettleText as text;
 
-use crate::tick_lines::{push_index_ends, push_signed, push_straddled, refusal_word};
+use crate::tick_lines::{push_index_ends, push_straddled, refusal_word};
 use crate::words::push_clock;
 use std::alloc::Global;
 use vx_cert::write_cert;
 use vx_drivers::text::{push_number, push_text};
-use vx_num::{NoMemory, write_decimal};
+use vx_num::{NoMemory, write_decimal, write_signed};
+use vx_room::{put, put_all, put_decimal, put_signed, put_wide_signed, written};
 use vx_settle::{Contract, Position};
 use vx_soq::{OpeningAnswer, SoqReason};
 
@@ -134,59 +136,75 @@ fn contract_word(contract: Contract) -> &'static str
     }
 }
 
-/// Appends the start of a position's line, up to its contract.
-fn push_contract(
-    alloc: Global,
-    line: &mut Vec<u8>,
-    number: u64,
-    contract: Contract,
-) -> Result<(), NoMemory>
-    ensures { OnOk result (line.new.items ≡ line.old.items
-        ++ comma_separated (codes "POS" ∷ count_text number ∷ text.contract_word contract ∷ [])) }
+/// The longest line of a position: its word and number, its contract, quantity, last price and amount, each behind
+/// its comma, and LF.
+const POSITION_ROOM: usize = START_ROOM + CONTRACT_ROOM + 2 * FIELD_ROOM + AMOUNT_ROOM + 1;
+
+/// The word, a comma and a number.
+const START_ROOM: usize = 25;
+
+/// A comma and the word of a contract.
+const CONTRACT_ROOM: usize = 4;
+
+/// A comma and a number of 64 bits.
+const FIELD_ROOM: usize = 22;
+
+/// A comma and a number of 128 bits.
+const AMOUNT_ROOM: usize = 42;
+
+// The line of a position is put together from its end, in a room of its own, and then appended at once, since a
+// sheet is made of little else and a test of room for each piece would cost more than its digits.
+
+/// Puts an amount in cents, behind a comma.
+fn put_amount(bytes: &mut [u8; POSITION_ROOM], end: usize, amount: i128) -> usize
+    requires room { AMOUNT_ROOM ≤ end }
+    requires within { end ≤ POSITION_ROOM }
+    ensures least { end ≤ result + AMOUNT_ROOM }
+    ensures within { result ≤ end }
+    ensures written { drop result bytes.new ≡ 44 ∷ signed_text amount 2 ++ drop end bytes.old }
 {
-    push_text(line, "POS,")?;
-    push_number(alloc, line, number)?;
-    push_text(line, ",")?;
-    push_text(line, contract_word(contract))
+    let comma = put_wide_signed(bytes, end, amount, 2);
+    put(bytes, comma, b',')
 }
 
-/// Appends a number over `10^places` behind a comma.
-fn push_field(alloc: Global, line: &mut Vec<u8>, value: i128, places: u32) -> Result<(), NoMemory>
-    requires { places ≤ 12 }
-    ensures { OnOk result (line.new.items ≡ line.old.items ++ 44 ∷ signed_text value places) }
+/// Puts a number over `10^places`, behind a comma.
+fn put_field(bytes: &mut [u8; POSITION_ROOM], end: usize, value: i64, places: u32) -> usize
+    requires room { FIELD_ROOM ≤ end }
+    requires within { end ≤ POSITION_ROOM }
+    requires places { places ≤ 12 }
+    ensures least { end ≤ result + FIELD_ROOM }
+    ensures within { result ≤ end }
+    ensures written { drop result bytes.new ≡ 44 ∷ signed_text value places ++ drop end bytes.old }
 {
-    push_text(line, ",")?;
-    push_signed(alloc, line, value, places)
+    let comma = put_signed(bytes, end, value, places);
+    put(bytes, comma, b',')
 }
 
-/// Appends the start of a position's line, up to its quantity.
-fn push_holding(
-    alloc: Global,
-    line: &mut Vec<u8>,
-    number: u64,
-    position: &Position,
-) -> Result<(), NoMemory>
-    ensures { OnOk result (line.new.items ≡ line.old.items
-        ++ comma_separated (codes "POS" ∷ count_text number ∷ text.contract_word position.now.contract
-        ∷ signed_text position.now.quantity 0 ∷ [])) }
+/// Puts the word of a contract, behind a comma.
+fn put_contract(bytes: &mut [u8; POSITION_ROOM], end: usize, contract: Contract) -> usize
+    requires room { CONTRACT_ROOM ≤ end }
+    requires within { end ≤ POSITION_ROOM }
+    ensures least { end ≤ result + CONTRACT_ROOM }
+    ensures within { result ≤ end }
+    ensures written { drop result bytes.new ≡ 44 ∷ text.contract_word contract ++ drop end bytes.old }
 {
-    push_contract(alloc, line, number, position.contract)?;
-    push_field(alloc, line, i128::from(position.quantity), 0)
+    let comma = put_all(bytes, end, contract_word(contract).as_bytes());
+    put(bytes, comma, b',')
 }
 
-/// Appends a last price in ten-thousandths of a point, an amount in cents, and the end of the line.
-fn push_terms(alloc: Global, line: &mut Vec<u8>, last: u32, amount: i128) -> Result<(), NoMemory>
-    ensures { OnOk result (line.new.items ≡ line.old.items
-        ++ 44 ∷ line_of (signed_text (pos last) 4 ∷ signed_text amount 2 ∷ [])) }
+/// Puts the word of a position's line, and the line's number behind a comma.
+fn put_start(bytes: &mut [u8; POSITION_ROOM], end: usize, number: u64) -> usize
+    requires room { START_ROOM ≤ end }
+    requires within { end ≤ POSITION_ROOM }
+    ensures within { result ≤ end }
+    ensures written { drop result bytes.new ≡ codes "POS" ++ 44 ∷ (count_text number ++ drop end bytes.old) }
 {
-    push_field(alloc, line, i128::from(last), 4)?;
-    push_field(alloc, line, amount, 2)?;
-    push_text(line, "\n")
+    let comma = put_decimal(bytes, end, number, 0);
+    put_all(bytes, comma, b"POS,")
 }
 
 /// Appends the line of a position with its amount in cents; the line of the file has this number.
 pub(crate) fn push_position(
-    alloc: Global,
     line: &mut Vec<u8>,
     number: u64,
     position: &Position,
@@ -194,8 +212,15 @@ pub(crate) fn push_position(
 ) -> Result<(), NoMemory>
     ensures { OnOk result (line.new.items ≡ line.old.items ++ text.position_text number position.now amount) }
 {
-    push_holding(alloc, line, number, position)?;
-    push_terms(alloc, line, position.last, amount)
+    let mut bytes = [0; POSITION_ROOM];
+    let end = put(&mut bytes, POSITION_ROOM, b'\n');
+    let amount = put_amount(&mut bytes, end, amount);
+    let last = put_field(&mut bytes, amount, i64::from(position.last), 4);
+    let quantity = put_field(&mut bytes, last, i64::from(position.quantity), 0);
+    let contract = put_contract(&mut bytes, quantity, position.contract);
+    let start = put_start(&mut bytes, contract, number);
+    line.extend_from_slice(written(&bytes, start))?;
+    Ok(())
 }
 
 /// Appends the line of the sum of all amounts, in cents.
@@ -204,7 +229,7 @@ pub(crate) fn push_total(alloc: Global, line: &mut Vec<u8>, total: i128) -> Resu
         ++ line_of (codes "TOTAL" ∷ text.amount_text total ∷ [])) }
 {
     push_text(line, "TOTAL,")?;
-    push_signed(alloc, line, total, 2)?;
+    write_signed(alloc, line, total, 2)?;
     push_text(line, "\n")
 }
 

@@ -1,8 +1,8 @@
 //! The lines that `replay` writes for its ticks.
 
-ghost use Rattle.std.specs.Prelude.{◌≡◌, ◌++◌, ◌≤◌, [], ◌∷◌, codes, OnOk};
+ghost use Rattle.std.specs.Prelude.{◌≡◌, ◌++◌, [], ◌∷◌, codes, OnOk};
 ghost use Rattle.vx_clock.specs.Clock.{clock_text};
-ghost use Rattle.vx_cli.specs.OutputLines.{comma_separated, count_text, forward_end_text, index_end_text, line_of, signed_text, strike_text};
+ghost use Rattle.vx_cli.specs.OutputLines.{comma_separated, count_text, forward_end_text, index_end_text, line_of, strike_text};
 ghost use Rattle.vx_replay.specs.Joinable.{CanBeWritten};
 ghost use Rattle.vx_cli.specs.ReadBack.{CertificateIsRead};
 ghost use Rattle.vx_cli.specs.ReplayRuns.{tally_of_answer};
@@ -13,7 +13,7 @@ use std::alloc::Global;
 use vx_cert::write_cert;
 use vx_drivers::Tally;
 use vx_drivers::text::{push_number, push_text};
-use vx_num::{NoMemory, write_decimal};
+use vx_num::{NoMemory, write_decimal, write_signed};
 use vx_replay::{Reason, TickAnswer, Which};
 use vx_term::TermRefusal;
 
@@ -55,28 +55,12 @@ fn reason_word(reason: Reason) -> &'static str
     }
 }
 
-/// Appends a number over `10^places`, with a `-` in front where it is below zero.
-pub(crate) fn push_signed(
-    alloc: Global,
-    line: &mut Vec<u8>,
-    value: i128,
-    places: u32,
-) -> Result<(), NoMemory>
-    requires { places ≤ 12 }
-    ensures { OnOk result (line.new.items ≡ line.old.items ++ signed_text value places) }
-{
-    if value < 0 {
-        push_text(line, "-")?;
-    }
-    write_decimal(alloc, line, value.unsigned_abs(), places)
-}
-
 /// Appends an end of an index, in millionths of a point, behind a comma.
 pub(crate) fn push_index_end(alloc: Global, line: &mut Vec<u8>, end: i64) -> Result<(), NoMemory>
     ensures { OnOk result (line.new.items ≡ line.old.items ++ 44 ∷ index_end_text end) }
 {
     push_text(line, ",")?;
-    push_signed(alloc, line, i128::from(end), 6)
+    write_signed(alloc, line, i128::from(end), 6)
 }
 
 /// Appends an end of a forward, in units of `10^-12` point, behind a comma.
@@ -84,7 +68,7 @@ pub(crate) fn push_forward_end(alloc: Global, line: &mut Vec<u8>, end: i128) -> 
     ensures { OnOk result (line.new.items ≡ line.old.items ++ 44 ∷ forward_end_text end) }
 {
     push_text(line, ",")?;
-    push_signed(alloc, line, end, 12)
+    write_signed(alloc, line, end, 12)
 }
 
 /// Appends the word of a tick's line, the tick's time and the days ahead.
