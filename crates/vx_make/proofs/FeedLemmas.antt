@@ -8,7 +8,7 @@ use Rattle.vx_feed.specs.declared.events.Event.TheVariants as event
 use Rattle.vx_feed.specs.Written.{event_text, text_of_events}
 use Rattle.vx_make.specs.Drawing.{next_state, state_after}
 use Rattle.vx_make.specs.Quotes.{for_each, strike_quotes, expiry_quotes, drawn_centre}
-use Rattle.vx_make.specs.Feed.{standard_term, weekly_term, declared_terms, strike_series, listed_series, tick_events, ticks_events, body_events, make_events, make_text, header}
+use Rattle.vx_make.specs.Feed.{standard_term, weekly_term, declared_terms, strike_series, listed_series, tick_events, tick_events_at, ticks_events, body_events, head_events, closing_event, make_events, make_text, header}
 
 pub for_each_none : {A : Type 0} → (part : ℕ → List A) → for_each 0 part ≡ []
 unfolding for_each
@@ -86,18 +86,6 @@ text_one e = sym (append-nil (event_text e))
 
 -- ---- the whole feed
 
--- five parts after one another are one text
-pub text_five : (a b c d e : List ℕ) (first : Event) (vs ws xs ys : List Event) (last : Event) → a ≡ text_of_events (first ∷ vs)
-    → b ≡ a ++ text_of_events ws → c ≡ b ++ text_of_events xs → d ≡ c ++ text_of_events ys → e ≡ d ++ event_text last
-    → e ≡ text_of_events (first ∷ (vs ++ ws ++ xs ++ ys ++ last ∷ []))
-text_five a b c d e first vs ws xs ys last ha hb hc hd he =
-    he ∙ ap (λ t. t ++ event_text last) (hd ∙ ap (λ t. t ++ text_of_events ys) (hc ∙ ap (λ t. t ++ text_of_events xs) (hb ∙ ap (λ t. t ++ text_of_events ws) ha)))
-    ∙ ap (λ t. (((text_of_events (first ∷ vs) ++ text_of_events ws) ++ text_of_events xs) ++ text_of_events ys) ++ t) (text_one last)
-    ∙ ap (λ t. ((t ++ text_of_events xs) ++ text_of_events ys) ++ text_of_events (last ∷ [])) (sym (texts-append (first ∷ vs) ws))
-    ∙ ap (λ t. (t ++ text_of_events ys) ++ text_of_events (last ∷ [])) (sym (texts-append (first ∷ (vs ++ ws)) xs))
-    ∙ ap (λ t. t ++ text_of_events (last ∷ [])) (sym (texts-append (first ∷ (vs ++ ws ++ xs)) ys))
-    ∙ sym (texts-append (first ∷ (vs ++ ws ++ xs ++ ys)) (last ∷ []))
-
 -- parts of one length
 pub length-for_each : {A : Type 0} → (k n : ℕ) (part : ℕ → List A) → ((i : ℕ) → length (part i) ≡ k) → length (for_each n part) ≡ k * n
 unfolding for_each
@@ -153,16 +141,31 @@ tick_text old a b c time state first centre second standard weekly hf hc hs hw h
     text_three old a b c (expiry_quotes time (drawn_centre start) standard_term start) (expiry_quotes time (drawn_centre start) weekly_term (state_after 800 start)) (event.Tick time ∷ [])
     (ha ∙ ap (λ es. old ++ text_of_events es) quotes) (hb ∙ ap (λ es. a ++ text_of_events es) others) (he ∙ ap (λ t. b ++ t) (text_one (event.Tick time)))
 
+-- what stands before the first tick, part after part
+pub head_is_its_text : (old a b c : List ℕ) (standard weekly : Expiry) → standard ≡ standard_term → weekly ≡ weekly_term
+    → a ≡ old ++ text_of_events (header ∷ declared_terms) → b ≡ a ++ text_of_events (listed_series standard) → c ≡ b ++ text_of_events (listed_series weekly)
+    → c ≡ old ++ text_of_events head_events
+head_is_its_text old a b c standard weekly ht hw ha hb hc =
+    text_three old a b c (header ∷ declared_terms) (listed_series standard_term) (listed_series weekly_term) ha
+    (hb ∙ ap (λ x. a ++ text_of_events (listed_series x)) ht) (hc ∙ ap (λ x. b ++ text_of_events (listed_series x)) hw)
+
+-- the last line
+end_text : (number ticks : ℕ) → event_text (event.End (804 + 801 * ticks)) ≡ event_text (closing_event number ticks)
+end_text number ticks = ap (λ n. event_text (event.End n)) (sym (length-body number ticks))
+
+pub last_line_text : (old new : List ℕ) (number ticks : ℕ) → old ≡ [] → new ≡ old ++ event_text (event.End (804 + 801 * ticks)) → new ≡ event_text (closing_event number ticks)
+last_line_text old new number ticks none h = h ∙ ap (λ t. t ++ event_text (event.End (804 + 801 * ticks))) none ∙ end_text number ticks
+
 -- the parts of the feed after one another
-pub feed_text : (start a b c d e : List ℕ) (number ticks count : ℕ) (standard weekly : Expiry) → start ≡ []
-    → a ≡ start ++ text_of_events (header ∷ declared_terms) → standard ≡ standard_term → b ≡ a ++ text_of_events (listed_series standard)
-    → weekly ≡ weekly_term → c ≡ b ++ text_of_events (listed_series weekly) → d ≡ c ++ text_of_events (ticks_events number ticks)
-    → count ≡ 804 + 801 * ticks → e ≡ d ++ event_text (event.End count) → e ≡ make_text number ticks
-feed_text start a b c d e number ticks count standard weekly hs ha ht hb hw hc hd hn he =
-    let body = body_events number ticks in
-    let lines : count ≡ length body = hn ∙ sym (length-body number ticks) in
-    text_five a b c d e header declared_terms (listed_series standard_term) (listed_series weekly_term) (ticks_events number ticks) (event.End (length body))
-    (ha ∙ ap (λ t. t ++ text_of_events (header ∷ declared_terms)) hs)
-    (hb ∙ ap (λ x. a ++ text_of_events (listed_series x)) ht)
-    (hc ∙ ap (λ x. b ++ text_of_events (listed_series x)) hw) hd
-    (he ∙ ap (λ n. d ++ event_text (event.End n)) lines)
+pub feed_text : (start a b c : List ℕ) (number ticks : ℕ) → start ≡ [] → a ≡ start ++ text_of_events head_events
+    → b ≡ a ++ text_of_events (ticks_events number ticks) → c ≡ b ++ event_text (event.End (804 + 801 * ticks)) → c ≡ make_text number ticks
+feed_text start a b c number ticks hs ha hb hc =
+    let last = hc ∙ ap (λ t. b ++ t) (end_text number ticks ∙ text_one (closing_event number ticks)) in
+    text_three start a b c head_events (ticks_events number ticks) (closing_event number ticks ∷ []) ha hb last ∙ ap (λ t. t ++ make_text number ticks) hs
+
+-- a tick's lines by its place, in a room that held nothing
+pub tick_lines_text : (old new : List ℕ) (number made count state : ℕ) → count ≡ made → state ≡ state_after (1601 * made) number → old ≡ []
+    → new ≡ old ++ text_of_events (tick_events (510 + count) state) → new ≡ text_of_events (tick_events_at number made)
+tick_lines_text old new number made count state hc hs none h =
+    h ∙ ap (λ t. t ++ text_of_events (tick_events (510 + count) state)) none
+    ∙ ap (λ n. text_of_events (tick_events (510 + n) state)) hc ∙ ap (λ s. text_of_events (tick_events (510 + made) s)) hs

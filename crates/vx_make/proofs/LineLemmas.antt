@@ -41,6 +41,11 @@ pub quote_parts : (time : ℕ) (s : Symbol) (bid ask : ℕ) → 81 ∷ 44 ∷ cl
 unfolding event_line
 quote_parts time s bid ask = ap (λ u. 81 ∷ 44 ∷ clock_text time ++ 44 ∷ u) (sym (fields_before (symbol_text s) (price_text bid) (price_text ask) (10 ∷ [])))
 
+-- kind and minute, and LF
+pub tick_parts : (time : ℕ) → 86 ∷ 44 ∷ clock_text time ++ 10 ∷ [] ≡ event_text (event.Tick time)
+unfolding event_line
+tick_parts time = refl
+
 -- the symbols of a call and of the put at its strike differ in one byte
 put_text : (root : Root) (date : DayNo) (strike : ℕ) → slice_set (symbol_text (record { root = root; date = date; side = Call; strike = strike })) 12 80 ≡ symbol_text (record { root = root; date = date; side = Put; strike = strike })
 unfolding symbol_text

@@ -35,6 +35,10 @@ strike_series x i = event.Series (sample_series_at x Call i) ∷ event.Series (s
 abbrev pub listed_series : Expiry → List Event
 listed_series x = for_each STRIKES (strike_series x)
 
+-- what stands before the first tick
+abbrev pub head_events : List Event
+head_events = header ∷ (declared_terms ++ listed_series standard_term ++ listed_series weekly_term)
+
 -- how many draws a tick takes: one for the centre and two for each series
 abbrev pub tick_draws : ℕ
 tick_draws = 1 + 2 * (4 * STRIKES)
@@ -48,20 +52,27 @@ tick_events time state =
     ++ expiry_quotes time centre weekly_term (state_after (4 * STRIKES) first)
     ++ event.Tick time ∷ []
 
--- the first so many ticks with their quotes, a minute apart; the number is the state before the first
+-- the quotes of a tick by its place, from 0, and the tick, a minute apart; the number is the state before the first
+abbrev pub tick_events_at : ℕ → ℕ → List Event
+tick_events_at number t = tick_events (FIRST_MINUTE + t) (state_after (tick_draws * t) number)
+
+-- the first so many ticks with their quotes
 abbrev pub ticks_events : ℕ → ℕ → List Event
-ticks_events number ticks =
-    for_each ticks (λ t. tick_events (FIRST_MINUTE + t) (state_after (tick_draws * t) number))
+ticks_events number ticks = for_each ticks (λ t. tick_events_at number t)
 
 -- what stands between the header and the end
 abbrev pub body_events : ℕ → ℕ → List Event
 body_events number ticks =
     declared_terms ++ listed_series standard_term ++ listed_series weekly_term ++ ticks_events number ticks
 
+-- the last line, which counts what stands between it and the header
+abbrev pub closing_event : ℕ → ℕ → Event
+closing_event number ticks = event.End (length (body_events number ticks))
+
 -- the events of the sample feed with a number and so many ticks
 abbrev pub make_events : ℕ → ℕ → List Event
 make_events number ticks =
-    header ∷ (body_events number ticks ++ event.End (length (body_events number ticks)) ∷ [])
+    header ∷ (body_events number ticks ++ closing_event number ticks ∷ [])
 
 -- its text
 abbrev pub make_text : ℕ → ℕ → List ℕ

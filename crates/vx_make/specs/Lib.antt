@@ -2,5 +2,6 @@
 pub mod Drawing
 pub mod Quotes
 pub mod Feed
+pub mod Pieces
 pub mod ReadBack
 pub mod Lawful

@@ -7,10 +7,12 @@ mod feed;
 pub mod laws;
 pub mod limits;
 mod line;
+mod pieces;
 mod quotes;
 
 pub use drawing::draw;
 pub use feed::make_feed;
+pub use pieces::SampleFeed;
 
 #[cfg(test)]
 mod tests;

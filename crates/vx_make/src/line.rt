@@ -1,7 +1,8 @@
-//! The line of a quote, put together in a room of its own and then appended at once, since a sample feed is
-//! made of little else and a piece of memory for each would cost more than its digits.
+//! The lines of a tick, each put together in a room of its own and then appended at once, since a sample feed is
+//! made of little else and a piece of memory for each would cost more than its digits. They are appended where
+//! room for them was taken before, so that none of them can want memory.
 
-ghost use Rattle.std.specs.Prelude.{◌≡◌, ◌+◌, ◌-◌, ◌*◌, ◌^◌, ◌<◌, ◌≤◌, [], ◌∷◌, ◌++◌, drop, length, OnOk};
+ghost use Rattle.std.specs.Prelude.{◌≡◌, ◌+◌, ◌-◌, ◌*◌, ◌^◌, ◌<◌, ◌≤◌, ◌∷◌, ◌++◌, drop, length, vec_capacity, vec_len};
 ghost use Rattle.vx_num.specs.Written.{digit_byte, natural_text};
 ghost use Rattle.vx_clock.specs.Clock.{clock_text};
 ghost use Rattle.vx_symbol.specs.SymbolText.{symbol_text};
@@ -11,10 +12,9 @@ ghost use Rattle.vx_symbol.specs.declared.symbols.Symbol.{Symbol};
 
 use crate::quotes::Prices;
 use vx_clock::write_clock;
-use vx_num::NoMemory;
 use vx_symbol::limits::{PRICE_MAX, SYMBOL_LEN};
 
-/// The longest line of a quote: kind and minute with their commas, a symbol, two prices with the commas before them,
+/// The longest line of a tick, which is that of a quote: kind and minute with their commas, a symbol, two prices with the commas before them,
 /// and LF.
 pub(crate) const LINE_ROOM: usize = 8 + SYMBOL_LEN + 2 * (1 + PRICE_ROOM) + 1;
 
@@ -105,22 +105,31 @@ fn put_start(bytes: &mut [u8; LINE_ROOM], end: usize, time: u16) -> usize
 // What has been written.
 fn written(bytes: &[u8; LINE_ROOM], start: usize) -> &[u8]
     requires { start ≤ LINE_ROOM }
-    ensures { result.now ≡ drop start bytes.now }
+    ensures text { result.now ≡ drop start bytes.now }
+    ensures most { length result.now ≤ LINE_ROOM }
 {
     &bytes[start..]
 }
 
-/// Appends the line of a quote. The symbol is the text of its series.
-pub(crate) fn put_quote(
-    out: &mut Vec<u8>,
-    time: u16,
-    symbol: &[u8; SYMBOL_LEN],
-    prices: Prices,
-) -> Result<(), NoMemory>
+// Appends a line for which there is room.
+fn append(out: &mut Vec<u8>, line: &[u8])
+    requires room { vec_len out.old + length line.now ≤ vec_capacity out.old }
+    ensures written { out.new.items ≡ out.old.items ++ line.now }
+    ensures len { vec_len out.new ≡ vec_len out.old + length line.now }
+    ensures capacity { vec_capacity out.old ≤ vec_capacity out.new }
+{
+    out.extend_from_slice(line).unwrap();
+}
+
+/// Appends the line of a quote, for which there is room. The symbol is the text of its series.
+pub(crate) fn put_quote(out: &mut Vec<u8>, time: u16, symbol: &[u8; SYMBOL_LEN], prices: Prices)
     requires bid { prices.bid ≤ PRICE_MAX }
     requires ask { prices.ask ≤ PRICE_MAX }
-    ensures { (series : Symbol) → symbol.now ≡ symbol_text series → OnOk result (out.new.items
-        ≡ out.old.items ++ event_text (event.Quote time series prices.bid prices.ask)) }
+    requires room { vec_len out.old + LINE_ROOM ≤ vec_capacity out.old }
+    ensures written { (series : Symbol) → symbol.now ≡ symbol_text series → out.new.items
+        ≡ out.old.items ++ event_text (event.Quote time series prices.bid prices.ask) }
+    ensures len { vec_len out.new ≤ vec_len out.old + LINE_ROOM }
+    ensures capacity { vec_capacity out.old ≤ vec_capacity out.new }
 {
     let mut bytes = [0; LINE_ROOM];
     let ask = put(&mut bytes, LINE_ROOM, b'\n');
@@ -128,6 +137,20 @@ pub(crate) fn put_quote(
     let named = put_price(&mut bytes, bid, prices.bid);
     let series = put_all(&mut bytes, named, symbol);
     let start = put_start(&mut bytes, series, time);
-    out.extend_from_slice(written(&bytes, start))?;
-    Ok(())
+    append(out, written(&bytes, start));
+}
+
+/// Appends the line of a tick itself, for which there is room.
+pub(crate) fn put_tick_line(out: &mut Vec<u8>, time: u16)
+    requires room { vec_len out.old + LINE_ROOM ≤ vec_capacity out.old }
+    ensures written { out.new.items ≡ out.old.items ++ event_text (event.Tick time) }
+    ensures len { vec_len out.new ≤ vec_len out.old + LINE_ROOM }
+    ensures capacity { vec_capacity out.old ≤ vec_capacity out.new }
+{
+    let mut bytes = [0; LINE_ROOM];
+    let end = put(&mut bytes, LINE_ROOM, b'\n');
+    let minute = put_all(&mut bytes, end, &write_clock(time));
+    let comma = put(&mut bytes, minute, b',');
+    let start = put(&mut bytes, comma, b'V');
+    append(out, written(&bytes, start));
 }

@@ -1,7 +1,10 @@
-use Rattle.std.proofs.Common.{◌+◌, ◌*◌, refl}
+use Rattle.std.proofs.Common.{ap, ◌∙◌, ◌++◌}
 use Rattle.vx_make.proofs.FeedLemmas.{feed_text}
+use Rattle.vx_feed.specs.Written.{text_of_events}
+use Rattle.vx_make.specs.Feed.{ticks_events}
 use Rattle.vx_make.proofs.feed.make_feed.Goals as goal
 
 pub returns : goal.returns
 returns c =
-    feed_text _ _ _ _ _ _ c.args.number c.args.ticks (804 + 801 * c.args.ticks) c.standard_term.result c.weekly_term.result c.in_ok-out.ensures.items c.in_ok-put_terms.ensures c.standard_term.ensures.term c.in_ok-put_series.ensures c.weekly_term.ensures.term c.in_ok-put_series-2.ensures c.in_ok-put_ticks.ensures refl c.in_ok-write_event.ensures.written
+    let ticks = c.put_ticks.ensures ∙ ap (λ t. t ++ text_of_events (ticks_events c.args.number c.args.ticks)) c.in_ok-reserve.ensures.items in
+    feed_text _ _ _ _ c.args.number c.args.ticks c.in_ok-out.ensures.items c.in_ok-put_head.ensures ticks c.in_ok-put_end.ensures

@@ -9,13 +9,17 @@ loop-place-init c = (
   text_none c.args.out.now.items (λ i. strike_quotes c.args.time c.args.centre c.args.expiry i (state_after (4 * i) c.args.state.now)),
   state_none 4 c.args.state.now,
   c.requires.states,
+  omega arith,
+  omega arith,
 )
 
 pub loop-place-preserved : goal.loop-place-preserved
 loop-place-preserved c = (
-  text_more_from _ _ _ (strike_quotes c.args.time c.args.centre c.args.expiry) 4 c.loop-place.place c.args.state.now c.loop-place.state c.loop-place.invariant.0 c.loop-place.invariant.1 c.in_ok-put_strike_quotes.ensures.written,
+  text_more_from _ _ _ (strike_quotes c.args.time c.args.centre c.args.expiry) 4 c.loop-place.place c.args.state.now c.loop-place.state c.loop-place.invariant.0 c.loop-place.invariant.1 c.put_strike_quotes.ensures.written,
   state_more 4 c.loop-place.place c.args.state.now c.loop-place.state _ c.loop-place.invariant.1 c.put_strike_quotes.ensures.steps,
   c.put_strike_quotes.ensures.states,
+  omega (arith, c.loop-place.invariant, c.put_strike_quotes.ensures.len),
+  omega (arith, c.loop-place.invariant, c.put_strike_quotes.ensures.capacity),
 )
 
 pub returns-clause-written : goal.returns-clause-written

@@ -1,6 +1,5 @@
 use Rattle.std.proofs.Common.{◌≡◌, sym, ap, ◌∙◌}
 use Rattle.std.specs.Prelude.{slice_set}
-use Rattle.std.proofs.lemmas.Result.{on_ok_weaker}
 use Rattle.vx_symbol.specs.SymbolText.{symbol_text}
 use Rattle.vx_symbol.specs.declared.symbols.Side.TheVariants.{Put}
 use Rattle.vx_make.specs.Quotes.{sample_series_at, drawn_quote}
@@ -17,6 +16,5 @@ returns-clause-written c =
     let symbol : slice_set c.write_symbol-symbol.result 12 80 ≡ symbol_text c.series_at-put.result =
     ap (λ t. slice_set t 12 80) (c.write_symbol-symbol.ensures.text ∙ ap symbol_text c.series_at-call.ensures.value)
     ∙ put_symbol c.args.expiry c.args.place ∙ ap symbol_text (sym c.series_at-put.ensures.value) in
-    on_ok_weaker c.put_quote-2.result
-    (two_lines _ _ _ _ _ _ _ call put (c.in_ok-put_quote.ensures c.series_at-call.result c.write_symbol-symbol.ensures.text))
-    (c.put_quote-2.ensures c.series_at-put.result symbol)
+    two_lines _ _ _ _ _ _ _ call put (c.put_quote.ensures.written c.series_at-call.result c.write_symbol-symbol.ensures.text)
+    (c.put_quote-2.ensures.written c.series_at-put.result symbol)
