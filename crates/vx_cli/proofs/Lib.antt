@@ -16,6 +16,8 @@ mod CountLemmas
 mod RangeLemmas
 mod ReplayLemmas
 mod SampleLemmas
+-- how `make` sends
+mod PiecesLemmas
 mod TextDeskLemmas
 -- the answers of `settle`
 mod SettleLemmas
