@@ -23,7 +23,7 @@ use Rattle.vx_replay.specs.declared.answer.TickAnswer.TheVariants.{Published, Un
 use Rattle.vx_replay.specs.Stepped.{IsAnswerNext, IsStepAnswer}
 use Rattle.vx_replay.specs.Ticks.{IsAnswerAfter, IsIndexAnswer, IsTickAnswer}
 use Rattle.vx_cli.specs.declared.drill.AnswerCounts.{AnswerCounts}
-use Rattle.vx_cli.specs.DrillRuns.{AnswersAreFew, HasCounted, answers_counted, drill_line, no_counts, one_of}
+use Rattle.vx_cli.specs.DrillRuns.{AnswersAreFew, HasCounted, answers_of_counts, drill_line, no_counts, one_of}
 use Rattle.vx_cli.specs.OutputLines.{count_text, line_of}
 use Rattle.vx_cli.specs.ReplayRuns.{minute_of_tick}
 use Rattle.vx_cli.specs.ReplayText.{Answered, AnswerTicks, Tick, count_answers, is_published, is_refused, is_undecided, tally_of, ticks_from, ticks_of}
@@ -223,7 +223,7 @@ all_kinds (a ∷ answers) =
     omega (arith, rest, one, p, u, r)
 
 -- how many answers were counted
-pub counted_all : (events : List Event) (counts : AnswerCounts) (h : HasCounted events counts) → answers_counted counts ≡ length h.answers
+pub counted_all : (events : List Event) (counts : AnswerCounts) (h : HasCounted events counts) → answers_of_counts counts ≡ length h.answers
 counted_all events counts h =
     let all = all_kinds h.answers in
     let p = h.published in

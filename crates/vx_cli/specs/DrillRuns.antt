@@ -26,12 +26,12 @@ one_of is_kind None = 0
 one_of is_kind (Some answer) = cond (is_kind answer) 1 0
 
 -- how many answers there are, of all kinds
-abbrev pub answers_counted : AnswerCounts → ℕ
-answers_counted counts = counts.published + counts.undecided + counts.refused
+abbrev pub answers_of_counts : AnswerCounts → ℕ
+answers_of_counts counts = counts.published + counts.undecided + counts.refused
 
 -- no line has more than one answer
 abbrev pub AnswersAreFew : AnswerCounts → Type 0
-AnswersAreFew counts = answers_counted counts ≤ counts.lines
+AnswersAreFew counts = answers_of_counts counts ≤ counts.lines
 
 -- the counts are those of the events: of their lines, and by kinds of the tick function's answers to their ticks
 pub record HasCounted (events : List Event) (counts : AnswerCounts) : Type 0 where
@@ -66,5 +66,5 @@ kinds_line counts = line_of (count_text counts.published ∷ count_text counts.u
 -- `DRILL,lines,ticks,published,undecided,refused`
 abbrev pub drill_line : AnswerCounts → Text
 drill_line counts =
-    line_of (codes "DRILL" ∷ count_text counts.lines ∷ count_text (answers_counted counts)
+    line_of (codes "DRILL" ∷ count_text counts.lines ∷ count_text (answers_of_counts counts)
     ∷ count_text counts.published ∷ count_text counts.undecided ∷ count_text counts.refused ∷ [])

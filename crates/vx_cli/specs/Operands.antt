@@ -5,13 +5,13 @@ use Rattle.clap.specs.Words.{App, Rule, new_app, new_rule, with_rule}
 abbrev pub required_word : Rule → Rule
 required_word rule = record rule { required = true }
 
-abbrev pub line_start : App
-line_start = let app = new_app (codes "operands") in record app {
+abbrev pub bare_operands : App
+bare_operands = let app = new_app (codes "operands") in record app {
   top = record app.top { no_binary_name = true; disable_help_flag = true };
 }
 
 abbrev pub two_operand_app : App
-two_operand_app = with_rule (with_rule line_start (required_word (new_rule (codes "first"))))
+two_operand_app = with_rule (with_rule bare_operands (required_word (new_rule (codes "first"))))
     (required_word (new_rule (codes "second")))
 
 abbrev pub three_operand_app : App

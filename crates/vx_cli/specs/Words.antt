@@ -58,15 +58,15 @@ settle_form operands =
     option_map (λ files. settle files.0 files.1 files.2) (option_and_then three_files (three_of operands))
 
 -- the number of a sample feed: a state of the generator, in digits
-abbrev pub number_of : Text → Option ℕ
-number_of text = result_ok (decimal_of text 0 (STATES - 1))
+abbrev pub sample_number_of : Text → Option ℕ
+sample_number_of text = result_ok (decimal_of text 0 (STATES - 1))
 
 -- how many ticks a sample feed has: at least one, in digits
-abbrev pub ticks_of : Text → Option ℕ
-ticks_of text = if_positive (result_ok (decimal_of text 0 TICKS_MAX))
+abbrev pub sample_ticks_of : Text → Option ℕ
+sample_ticks_of text = if_positive (result_ok (decimal_of text 0 TICKS_MAX))
 
 abbrev pub sample_of : Text × Text → Option (ℕ × ℕ)
-sample_of texts = option_zip (number_of texts.0) (ticks_of texts.1)
+sample_of texts = option_zip (sample_number_of texts.0) (sample_ticks_of texts.1)
 
 -- `make NUMBER TICKS`
 abbrev pub make_form : List Text → Option Command

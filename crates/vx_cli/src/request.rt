@@ -4,7 +4,7 @@ ghost use Rattle.std.specs.Prelude.{◌≡◌, ◌<◌, ◌≤◌, true, IfOk, I
 ghost use Rattle.std.specs.List.{list_all};
 ghost use Rattle.vx_cli.specs.Requests.{IsRequestInRange, IsSample, asked};
 ghost use Rattle.vx_cli.specs.Words.{check_form, command_of, drill_form, is_plain_word, make_form, named_form};
-ghost use Rattle.vx_cli.specs.Words.{number_of, replay_form, sample_of, settle_form, three_files, three_of, ticks_of, two_files, two_of};
+ghost use Rattle.vx_cli.specs.Words.{sample_number_of, replay_form, sample_of, settle_form, three_files, three_of, sample_ticks_of, two_files, two_of};
 
 use crate::operands::{three_operands, two_operands};
 use std::alloc::Global;
@@ -137,7 +137,7 @@ fn read_settle<'a>(alloc: Global, operands: &'a [String]) -> Result<Option<Reque
 
 /// Reads the number of a sample feed.
 fn read_number(word: &str) -> Option<u32>
-    ensures value { result ≡ number_of word.now }
+    ensures value { result ≡ sample_number_of word.now }
     ensures in_range { IfSome result (λ number. number < STATES) }
 {
     let number = read_decimal(word.as_bytes(), 0, u64::from(STATES - 1)).ok()?;
@@ -146,7 +146,7 @@ fn read_number(word: &str) -> Option<u32>
 
 /// Reads how many ticks a sample feed has.
 fn read_ticks(word: &str) -> Option<u32>
-    ensures value { result ≡ ticks_of word.now }
+    ensures value { result ≡ sample_ticks_of word.now }
     ensures in_range { IfSome result (λ ticks. (1 ≤ ticks) × (ticks ≤ TICKS_MAX)) }
 {
     let ticks = read_decimal(word.as_bytes(), 0, u64::from(TICKS_MAX)).ok()?;
