@@ -3,7 +3,6 @@
 ghost use Rattle.std.specs.Prelude.{◌≡◌, ◌≤◌, Some, length, true, IfOk, IfSome};
 ghost use Rattle.vx_clock.specs.Day.{IsDayInRange};
 ghost use Rattle.vx_symbol.specs.Rows.{IsRateInRange};
-ghost use Rattle.vx_symbol.specs.Symbol.{IsSymbolInRange};
 ghost use Rattle.vx_feed.specs.Form as spec;
 ghost use Rattle.vx_feed.specs.declared.kinds.Kind.TheVariants as kind;
 ghost use Rattle.vx_feed.specs.Ranges.{IsEventInRange, IsPrice};
@@ -11,13 +10,13 @@ ghost use Rattle.vx_feed.specs.Ranges.{IsEventInRange, IsPrice};
 use crate::events::Event;
 use crate::faults::FeedFault;
 use crate::kinds::{Kind, kind_of};
+use crate::known::KnownSymbols;
 use crate::limits::LINES_MAX;
 use vx_clock::limits::{RATE_MAX, RATE_MIN};
 use vx_clock::{DayNo, Expiry, Root, read_clock, read_day};
 use vx_fields::Fields;
 use vx_num::{read_decimal, read_signed};
 use vx_symbol::limits::PRICE_MAX;
-use vx_symbol::{Symbol, read_symbol};
 
 /// The places of a rate in percent per year: one unit is 10^-6 percent.
 pub(crate) const RATE_PLACES: u32 = 6;
@@ -30,14 +29,6 @@ fn read_date(text: &[u8]) -> Option<DayNo>
     ensures in_range { IfSome result IsDayInRange }
 {
     read_day(text).ok()
-}
-
-#[inline(always)]
-fn read_series(text: &[u8]) -> Option<Symbol>
-    ensures value { result ≡ spec.series_of_text text.now }
-    ensures in_range { IfSome result IsSymbolInRange }
-{
-    read_symbol(text).ok()
 }
 
 // A rate in percent per year, in 10^-8 per year.
@@ -119,22 +110,22 @@ fn read_rate_line(fields: &Fields<'_>) -> Result<Event, FeedFault>
     Ok(Event::Rate { expiry, rate })
 }
 
-fn read_series_line(fields: &Fields<'_>) -> Result<Event, FeedFault>
+fn read_series_line(fields: &Fields<'_>, known: &mut KnownSymbols) -> Result<Event, FeedFault>
     requires { length fields.now ≡ 2 }
     ensures value { result ≡ spec.event_of_kind kind.Series fields.now }
     ensures in_range { IfOk result IsEventInRange }
 {
-    let symbol = read_series(fields.field(1)).ok_or(FeedFault::Field(2))?;
+    let symbol = known.read(fields.field(1)).ok_or(FeedFault::Field(2))?;
     Ok(Event::Series(symbol))
 }
 
-fn read_quote(fields: &Fields<'_>) -> Result<Event, FeedFault>
+fn read_quote(fields: &Fields<'_>, known: &mut KnownSymbols) -> Result<Event, FeedFault>
     requires { length fields.now ≡ 5 }
     ensures value { result ≡ spec.event_of_kind kind.Quote fields.now }
     ensures in_range { IfOk result IsEventInRange }
 {
     let time = read_clock(fields.field(1)).ok_or(FeedFault::Field(2))?;
-    let symbol = read_series(fields.field(2)).ok_or(FeedFault::Field(3))?;
+    let symbol = known.read(fields.field(2)).ok_or(FeedFault::Field(3))?;
     let bid = read_price(fields.field(3)).ok_or(FeedFault::Field(4))?;
     let ask = read_price(fields.field(4)).ok_or(FeedFault::Field(5))?;
     Ok(Event::Quote {
@@ -145,13 +136,13 @@ fn read_quote(fields: &Fields<'_>) -> Result<Event, FeedFault>
     })
 }
 
-fn read_trade(fields: &Fields<'_>) -> Result<Event, FeedFault>
+fn read_trade(fields: &Fields<'_>, known: &mut KnownSymbols) -> Result<Event, FeedFault>
     requires { length fields.now ≡ 4 }
     ensures value { result ≡ spec.event_of_kind kind.Trade fields.now }
     ensures in_range { IfOk result IsEventInRange }
 {
     let time = read_clock(fields.field(1)).ok_or(FeedFault::Field(2))?;
-    let symbol = read_series(fields.field(2)).ok_or(FeedFault::Field(3))?;
+    let symbol = known.read(fields.field(2)).ok_or(FeedFault::Field(3))?;
     let price = read_trade_price(fields.field(3)).ok_or(FeedFault::Field(4))?;
     Ok(Event::Trade {
         time,
@@ -160,11 +151,12 @@ fn read_trade(fields: &Fields<'_>) -> Result<Event, FeedFault>
     })
 }
 
-fn read_tick(fields: &Fields<'_>) -> Result<Event, FeedFault>
+fn read_tick(fields: &Fields<'_>, known: &mut KnownSymbols) -> Result<Event, FeedFault>
     requires { length fields.now ≡ 2 }
     ensures value { result ≡ spec.event_of_kind kind.Tick fields.now }
     ensures in_range { IfOk result IsEventInRange }
 {
+    known.restart();
     let time = read_clock(fields.field(1)).ok_or(FeedFault::Field(2))?;
     Ok(Event::Tick { time })
 }
@@ -196,7 +188,7 @@ fn is_quote(text: &[u8]) -> bool
 
 /// The event that a line's fields say, or the first fault of their form.
 #[inline(never)]
-pub(crate) fn read_form(fields: &Fields<'_>) -> Result<Event, FeedFault>
+pub(crate) fn read_form(fields: &Fields<'_>, known: &mut KnownSymbols) -> Result<Event, FeedFault>
     ensures value { result ≡ spec.event_of_fields fields.now }
     ensures in_range { IfOk result IsEventInRange }
 {
@@ -204,7 +196,7 @@ pub(crate) fn read_form(fields: &Fields<'_>) -> Result<Event, FeedFault>
         return Err(FeedFault::Kind);
     }
     if fields.len() == Kind::Quote.field_count() && is_quote(fields.field(0)) {
-        return read_quote(fields);
+        return read_quote(fields, known);
     }
     let kind = kind_of(fields.field(0)).ok_or(FeedFault::Kind)?;
     if fields.len() != kind.field_count() {
@@ -214,10 +206,10 @@ pub(crate) fn read_form(fields: &Fields<'_>) -> Result<Event, FeedFault>
         Kind::Header => read_header(fields),
         Kind::Expiry => read_expiry(fields),
         Kind::Rate => read_rate_line(fields),
-        Kind::Series => read_series_line(fields),
-        Kind::Quote => read_quote(fields),
-        Kind::Trade => read_trade(fields),
-        Kind::Tick => read_tick(fields),
+        Kind::Series => read_series_line(fields, known),
+        Kind::Quote => read_quote(fields, known),
+        Kind::Trade => read_trade(fields, known),
+        Kind::Tick => read_tick(fields, known),
         Kind::Opening => read_opening(fields),
         Kind::End => read_end(fields),
     }

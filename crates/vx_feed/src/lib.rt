@@ -5,6 +5,7 @@ pub mod events;
 pub mod faults;
 mod form;
 pub mod kinds;
+mod known;
 mod laws;
 pub mod limits;
 mod order;
@@ -13,6 +14,7 @@ mod write;
 
 pub use events::Event;
 pub use faults::FeedFault;
+pub use known::KnownSymbols;
 pub use laws::{
     faults_by_cause, first_cause_is_answered, lawful_lists, lawful_prefixes, next_listing,
     next_opening, next_rows, next_standing,

@@ -3,9 +3,10 @@
 ghost use Rattle.std.specs.Prelude.{OnOk, IfOk};
 ghost use Rattle.vx_feed.specs.Noted.{StandsForSome};
 
-use crate::{Event, FeedFault, Order, read_event};
+use crate::{Event, FeedFault, KnownSymbols, Order, event_of_fields, read_event};
 use std::alloc::Global;
 use std::test::Fail;
+use vx_fields::{FieldTable, LineBlock, why_unsplit};
 
 const FEED_A: [&str; 15] = [
     "H,1,2014-09-17",
@@ -132,6 +133,26 @@ const LAWFUL: [(usize, &str); 9] = [
     (1, "Q,08:30,SPX   141017C01900000,2.00,1.00"),
 ];
 
+// Lines that name series again: in the same order, in another, and with a bad symbol between.
+const SERIES_AGAIN: [&str; 16] = [
+    "Q,08:30,SPX   141017C01900000,1.00,2.00",
+    "Q,08:30,SPX   141017P01900000,3.00,4.00",
+    "Q,08:30,SPX   141017C02000000,5.00,6.00",
+    "Q,08:31,SPX   141017C01900000,1.00,2.00",
+    "Q,08:31,SPX   141017P01900000,3.00,4.00",
+    "Q,08:31,SPX   141017C02000000,5.00,6.00",
+    "Q,08:32,SPX   141017P01900000,3.00,4.00",
+    "Q,08:32,SPX   141017C02000000,5.00,6.00",
+    "T,08:32,SPX   141017C01900000,1.50",
+    "S,SPX   141017C02200000",
+    "Q,08:33,SPX   141017C01900000,1.00,2.00",
+    "Q,08:33,SPX   141017P0190000,3.00,4.00",
+    "Q,08:33,SPX   141017X01900000,3.00,4.00",
+    "Q,08:33,SPX   141017P01900000,3.00,4.00",
+    "Q,08:33,SPX   141017C02000001,5.00,6.00",
+    "Q,08:33,SPX   141017C02000000,5.00,6.00",
+];
+
 // A feed that declares one expiry too many.
 const SEVENTEEN_EXPIRIES: [&str; 18] = [
     "H,1,2014-09-17",
@@ -191,6 +212,23 @@ fn order_after(alloc: Global, count: usize) -> Result<Order, Fail>
     Ok(seen)
 }
 
+// The event of a line, where symbols of earlier lines may be known.
+fn read_knowing(
+    alloc: Global,
+    line: &str,
+    seen: &Order,
+    known: &mut KnownSymbols,
+) -> Result<Event, FeedFault> {
+    if let Some(why) = why_unsplit(line.as_bytes()) {
+        return Err(FeedFault::from(why));
+    }
+    let mut block = LineBlock::new(alloc);
+    block.push(line.as_bytes())?;
+    let mut table = FieldTable::new(alloc);
+    table.fill(&block)?;
+    event_of_fields(&table.line(0), seen, known)
+}
+
 #[test]
 fn sample_feeds_are_lawful(rt: HostRuntime) -> Result<(), Fail> {
     assert_eq!(rt; first_fault(rt.alloc(), &FEED_A)?, None);
@@ -243,6 +281,17 @@ fn a_rate_is_read_with_its_sign(rt: HostRuntime) -> Result<(), Fail> {
     match read_event(rt.alloc(), b"R,SPX,2014-10-17,-0.0305", &seen)? {
         Event::Rate { rate, .. } => assert_eq!(rt; rate, -30_500),
         _ => assert!(rt; false),
+    }
+    Ok(())
+}
+
+#[test]
+fn known_symbols_change_no_answer(rt: HostRuntime) -> Result<(), Fail> {
+    let seen = order_after(rt.alloc(), 9)?;
+    let mut known = KnownSymbols::new(rt.alloc());
+    for line in SERIES_AGAIN.iter() {
+        let alone = read_event(rt.alloc(), line.as_bytes(), &seen);
+        assert_eq!(rt; read_knowing(rt.alloc(), line, &seen, &mut known), alone);
     }
     Ok(())
 }

@@ -23,6 +23,7 @@ use Rattle.vx_blocks.proofs.ComingLemmas.{all_taken, none_at_hand}
 use Rattle.vx_blocks.proofs.TakeLemmas.{takes_next}
 use Rattle.vx_feed.specs.declared.events.Event.{Event}
 use Rattle.vx_feed.specs.declared.faults.FeedFault.{FeedFault}
+use Rattle.vx_feed.specs.declared.known.KnownSymbols.{KnownSymbols}
 use Rattle.vx_feed.specs.Feed.{Reading, event_of_line, fault_of_unsplit, missing_end, next_event, of_fault, reading_after, reading_at_end, reading_on, stopped_at, with_cause}
 use Rattle.vx_feed.specs.Order.{is_end}
 use Rattle.vx_feed.proofs.ReadLemmas.{split_says, unsplit_says}
@@ -62,6 +63,11 @@ no_fault_calls (Err stop.Device) none = absurd none
 pub taken_with : {T : Type 0} (StandsFor : T → List Event → Type 0) (feed : FeedReader T) (ahead : SplitLines) (events : List Event) → HasTakenUp StandsFor feed events
     → HasTakenUp StandsFor (record feed { ahead = ahead }) events
 taken_with StandsFor feed ahead events has = record { taker = has.taker; order = has.order; lawful = has.lawful; count = has.count; few = has.few; has_end = has.has_end }
+
+-- what was taken up, with other symbols known
+pub taken_knowing : {T : Type 0} (StandsFor : T → List Event → Type 0) (feed : FeedReader T) (known : KnownSymbols) (events : List Event) → HasTakenUp StandsFor feed events
+    → HasTakenUp StandsFor (record feed { known = known }) events
+taken_knowing StandsFor feed known events has = record { taker = has.taker; order = has.order; lawful = has.lawful; count = has.count; few = has.few; has_end = has.has_end }
 
 -- the same events are taken up once lines were read on
 pub read_on_at : {T : Type 0} (StandsFor : T → List Event → Type 0) (held : Option (List ℕ)) (whole : Option Reading) (events : List Event) (old : FeedReader T) (ahead : SplitLines) (before after : Slot → Told)

@@ -10,7 +10,7 @@ use std::alloc::Global;
 use vx_blocks::{Rest, SplitLines};
 use vx_desk::{Desk, Slot};
 use vx_feed::limits::{LINE_LEN_MAX, LINES_MAX};
-use vx_feed::{Event, FeedFault, Order, event_of_fields};
+use vx_feed::{Event, FeedFault, KnownSymbols, Order, event_of_fields};
 use vx_fields::Fields;
 use vx_num::NoMemory;
 
@@ -22,6 +22,7 @@ use vx_num::NoMemory;
 pub struct FeedReader<T: Drop> {
     ahead: SplitLines,
     order: Order,
+    known: KnownSymbols,
     taker: T,
     /// How many lines were taken up.
     count: u64,
@@ -37,10 +38,15 @@ fn is_end(event: &Event) -> bool
 }
 
 /// The event of the line of this number, which was split into these fields.
-fn event_of(fields: &Fields<'_>, order: &Order, number: u64) -> Result<Event, FeedStop>
+fn event_of(
+    fields: &Fields<'_>,
+    order: &Order,
+    known: &mut KnownSymbols,
+    number: u64,
+) -> Result<Event, FeedStop>
     ensures { SayEvent fields.now order.now number result }
 {
-    match event_of_fields(fields, order) {
+    match event_of_fields(fields, order, known) {
         Ok(event) => Ok(event),
         Err(FeedFault::NoMemory) => Err(FeedStop::NoMemory),
         Err(fault) => Err(FeedStop::BadLine {
@@ -84,6 +90,7 @@ impl<T: TakesEvents> FeedReader<T> {
         Ok(FeedReader {
             ahead: SplitLines::new(alloc, Slot::Feed, LINE_LEN_MAX)?,
             order: Order::new(alloc)?,
+            known: KnownSymbols::new(alloc),
             taker,
             count: 0,
             has_end: false,
@@ -131,7 +138,12 @@ impl<T: TakesEvents> FeedReader<T> {
         ensures no_fault { IfErr result IsNoFeedFault }
         ensures lines { self.new.ahead.lines ≡ self.old.ahead.lines }
     {
-        let event = event_of(&self.ahead.fields(), &self.order, self.count + 1)?;
+        let event = event_of(
+            &self.ahead.fields(),
+            &self.order,
+            &mut self.known,
+            self.count + 1,
+        )?;
         self.ahead.take();
         self.push(event)?;
         Ok(Some(event))
