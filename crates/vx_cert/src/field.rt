@@ -4,8 +4,8 @@
 ghost use Rattle.std.specs.Prelude.{◌≡◌, ◌≢◌, Err, option_and_then};
 ghost use Rattle.std.specs.Result.{result_map_both};
 ghost use Rattle.serde_json.specs.View.{view};
-ghost use Rattle.vx_cert.specs.Form.{whole_of, signed_of, root_of, date_of, time_of, pair_of, word_of, kind_of, ends_of, index_ends_of, taylor_of, rows_of, object_of};
-ghost use Rattle.vx_cert.specs.Reading.{field};
+ghost use Rattle.vx_cert.specs.Form.{whole_in, signed_in, root_in, date_in, time_in, pair_in, word_in, kind_in, ends_in, index_ends_in, taylor_in, rows_in, object_in};
+ghost use Rattle.vx_cert.specs.Reading.{field_in};
 
 use crate::certificate::{Ends, Pair};
 use crate::fault::CertFault;
@@ -17,7 +17,7 @@ use std::alloc::Global;
 use vx_clock::{DayNo, Root};
 
 pub fn root(object: &Value, key: &str, number: u32) -> Result<Root, CertFault>
-    ensures { result ≡ field number key.now root_of (view object.now) }
+    ensures { result ≡ field_in number key.now root_in (view object.now) }
 {
     object
         .get(key)
@@ -26,7 +26,7 @@ pub fn root(object: &Value, key: &str, number: u32) -> Result<Root, CertFault>
 }
 
 pub fn date(object: &Value, key: &str, number: u32) -> Result<DayNo, CertFault>
-    ensures { result ≡ field number key.now date_of (view object.now) }
+    ensures { result ≡ field_in number key.now date_in (view object.now) }
 {
     object
         .get(key)
@@ -35,7 +35,7 @@ pub fn date(object: &Value, key: &str, number: u32) -> Result<DayNo, CertFault>
 }
 
 pub fn time(object: &Value, key: &str, number: u32) -> Result<u16, CertFault>
-    ensures { result ≡ field number key.now time_of (view object.now) }
+    ensures { result ≡ field_in number key.now time_in (view object.now) }
 {
     object
         .get(key)
@@ -44,7 +44,7 @@ pub fn time(object: &Value, key: &str, number: u32) -> Result<u16, CertFault>
 }
 
 pub fn pair(object: &Value, key: &str, number: u32) -> Result<Pair, CertFault>
-    ensures { result ≡ field number key.now pair_of (view object.now) }
+    ensures { result ≡ field_in number key.now pair_in (view object.now) }
 {
     object
         .get(key)
@@ -53,7 +53,7 @@ pub fn pair(object: &Value, key: &str, number: u32) -> Result<Pair, CertFault>
 }
 
 pub fn word(object: &Value, key: &str, number: u32) -> Result<u32, CertFault>
-    ensures { result ≡ field number key.now word_of (view object.now) }
+    ensures { result ≡ field_in number key.now word_in (view object.now) }
 {
     object
         .get(key)
@@ -62,7 +62,7 @@ pub fn word(object: &Value, key: &str, number: u32) -> Result<u32, CertFault>
 }
 
 pub fn named_kind(object: &Value, key: &str, number: u32) -> Result<Kind, CertFault>
-    ensures { result ≡ field number key.now kind_of (view object.now) }
+    ensures { result ≡ field_in number key.now kind_in (view object.now) }
 {
     object
         .get(key)
@@ -71,7 +71,7 @@ pub fn named_kind(object: &Value, key: &str, number: u32) -> Result<Kind, CertFa
 }
 
 pub fn whole(object: &Value, key: &str, number: u32, low: u64, high: u64) -> Result<u64, CertFault>
-    ensures { result ≡ field number key.now (whole_of low high) (view object.now) }
+    ensures { result ≡ field_in number key.now (whole_in low high) (view object.now) }
 {
     object
         .get(key)
@@ -86,7 +86,7 @@ pub fn whole_u32(
     low: u32,
     high: u32,
 ) -> Result<u32, CertFault>
-    ensures { result ≡ field number key.now (whole_of low high) (view object.now) }
+    ensures { result ≡ field_in number key.now (whole_in low high) (view object.now) }
 {
     object
         .get(key)
@@ -95,7 +95,7 @@ pub fn whole_u32(
 }
 
 pub fn signed(object: &Value, key: &str, number: u32, low: i32, high: i32) -> Result<i32, CertFault>
-    ensures { result ≡ field number key.now (signed_of low high) (view object.now) }
+    ensures { result ≡ field_in number key.now (signed_in low high) (view object.now) }
 {
     object
         .get(key)
@@ -104,7 +104,7 @@ pub fn signed(object: &Value, key: &str, number: u32, low: i32, high: i32) -> Re
 }
 
 pub fn ends(object: &Value, key: &str, number: u32) -> Result<Ends, CertFault>
-    ensures { result ≡ field number key.now ends_of (view object.now) }
+    ensures { result ≡ field_in number key.now ends_in (view object.now) }
 {
     object
         .get(key)
@@ -113,7 +113,7 @@ pub fn ends(object: &Value, key: &str, number: u32) -> Result<Ends, CertFault>
 }
 
 pub fn index_ends(object: &Value, key: &str, number: u32) -> Result<(i64, i64), CertFault>
-    ensures { result ≡ field number key.now index_ends_of (view object.now) }
+    ensures { result ≡ field_in number key.now index_ends_in (view object.now) }
 {
     object
         .get(key)
@@ -126,7 +126,7 @@ pub fn taylor(
     key: &str,
     number: u32,
 ) -> Result<(TaylorTerms, TaylorTerms), CertFault>
-    ensures { result ≡ field number key.now taylor_of (view object.now) }
+    ensures { result ≡ field_in number key.now taylor_in (view object.now) }
 {
     object
         .get(key)
@@ -136,7 +136,7 @@ pub fn taylor(
 
 pub fn rows(alloc: Global, object: &Value, key: &str, number: u32) -> Result<CertRows, CertFault>
     ensures { result ≢ Err CertFault.NoMemory
-        → result ≡ field number key.now rows_of (view object.now) }
+        → result ≡ field_in number key.now rows_in (view object.now) }
 {
     let Some(value) = object.get(key) else {
         return Err(CertFault::Field(number));
@@ -150,7 +150,7 @@ pub fn rows(alloc: Global, object: &Value, key: &str, number: u32) -> Result<Cer
 /// A value that is an object.
 pub fn object<'v>(object: &'v Value, key: &str, number: u32) -> Result<&'v Value, CertFault>
     ensures { result_map_both (λ value. view value.now) (λ fault. fault) result
-        ≡ field number key.now object_of (view object.now) }
+        ≡ field_in number key.now object_in (view object.now) }
 {
     match object.get(key) {
         Some(value) if value.is_object() => Ok(value),

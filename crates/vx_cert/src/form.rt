@@ -7,7 +7,7 @@ ghost use Rattle.std.specs.List.{list_all};
 ghost use Rattle.serde_json.specs.View.{view};
 ghost use Rattle.vx_clock.specs.Day.{day_of_text};
 ghost use Rattle.vx_cert.specs.declared.limits.TheConstants.{TAYLOR_TERMS};
-ghost use Rattle.vx_cert.specs.Form.{whole_of, signed_of, root_of, date_of, time_of, list_of, pair_of, has_only, is_among, word_of, kind_of, wide_of, part_of, index_end_of, ends_of, index_ends_of, row_of, taylor_named, taylor_of, all_read, rows_of};
+ghost use Rattle.vx_cert.specs.Form.{whole_in, signed_in, root_in, date_in, time_in, list_in, pair_in, has_only, is_among, word_in, kind_in, wide_in, part_in, index_end_in, ends_in, index_ends_in, row_in, taylor_named, taylor_in, all_read, rows_in};
 
 use crate::certificate::{Ends, Pair};
 use crate::limits::{END_BITS, ROWS_MAX, TAYLOR_TERMS};
@@ -22,7 +22,7 @@ pub type TaylorTerms = [u64; TAYLOR_TERMS];
 
 /// A JSON whole number from `low` to `high`.
 pub fn whole(value: &Value, low: u64, high: u64) -> Option<u64>
-    ensures { result ≡ whole_of low high (view value.now) }
+    ensures { result ≡ whole_in low high (view value.now) }
 {
     let number = value.as_u64()?;
     if low <= number && number <= high {
@@ -34,7 +34,7 @@ pub fn whole(value: &Value, low: u64, high: u64) -> Option<u64>
 
 /// The same of 32 bits.
 pub fn whole_u32(value: &Value, low: u32, high: u32) -> Option<u32>
-    ensures { result ≡ whole_of low high (view value.now) }
+    ensures { result ≡ whole_in low high (view value.now) }
 {
     let number = value.as_u64()?;
     if u64::from(low) <= number && number <= u64::from(high) {
@@ -46,7 +46,7 @@ pub fn whole_u32(value: &Value, low: u32, high: u32) -> Option<u32>
 
 /// A JSON whole number of 32 bits.
 pub fn word(value: &Value) -> Option<u32>
-    ensures { result ≡ word_of (view value.now) }
+    ensures { result ≡ word_in (view value.now) }
 {
     let number = value.as_u64()?;
     if number <= u64::from(u32::MAX) {
@@ -58,7 +58,7 @@ pub fn word(value: &Value) -> Option<u32>
 
 /// A JSON whole number from `low` to `high`, with a sign.
 pub fn signed(value: &Value, low: i32, high: i32) -> Option<i32>
-    ensures { result ≡ signed_of low high (view value.now) }
+    ensures { result ≡ signed_in low high (view value.now) }
 {
     let number = value.as_i64()?;
     if i64::from(low) <= number && number <= i64::from(high) {
@@ -70,7 +70,7 @@ pub fn signed(value: &Value, low: i32, high: i32) -> Option<i32>
 
 /// `SPX` or `SPXW`.
 pub fn root(value: &Value) -> Option<Root>
-    ensures { result ≡ root_of (view value.now) }
+    ensures { result ≡ root_in (view value.now) }
 {
     let text = value.as_str()?;
     Root::named(text.as_bytes())
@@ -78,7 +78,7 @@ pub fn root(value: &Value) -> Option<Root>
 
 /// A day `yyyy-mm-dd` of the years 2000 to 2099.
 pub fn date(value: &Value) -> Option<DayNo>
-    ensures { result ≡ date_of (view value.now) }
+    ensures { result ≡ date_in (view value.now) }
 {
     let text = value.as_str()?;
     read_day(text.as_bytes()).ok()
@@ -86,7 +86,7 @@ pub fn date(value: &Value) -> Option<DayNo>
 
 /// The minute of the day that a time `hh:mm` names.
 pub fn time(value: &Value) -> Option<u16>
-    ensures { result ≡ time_of (view value.now) }
+    ensures { result ≡ time_in (view value.now) }
 {
     let text = value.as_str()?;
     read_clock(text.as_bytes())
@@ -95,7 +95,7 @@ pub fn time(value: &Value) -> Option<u16>
 /// The values of a list.
 #[tactic(auto, using(crate::proofs::Values::list_of_items_of))]
 pub fn list(value: &Value) -> Option<&[Value]>
-    ensures { option_map (λ values. map view values.now) result ≡ list_of (view value.now) }
+    ensures { option_map (λ values. map view values.now) result ≡ list_in (view value.now) }
 {
     let values = value.as_array()?;
     Some(values.as_slice())
@@ -103,7 +103,7 @@ pub fn list(value: &Value) -> Option<&[Value]>
 
 /// A strike and a difference of half prices.
 pub fn pair(value: &Value) -> Option<Pair>
-    ensures { result ≡ pair_of (view value.now) }
+    ensures { result ≡ pair_in (view value.now) }
 {
     let [strike, d] = list(value)? else {
         return None;
@@ -116,7 +116,7 @@ pub fn pair(value: &Value) -> Option<Pair>
 
 /// A wide number, below `2^126` in absolute value.
 pub fn wide(value: &Value) -> Option<i128>
-    ensures { result ≡ wide_of (view value.now) }
+    ensures { result ≡ wide_in (view value.now) }
 {
     let text = value.as_str()?;
     read_wide(text.as_bytes(), END_BITS).ok()
@@ -124,7 +124,7 @@ pub fn wide(value: &Value) -> Option<i128>
 
 /// A wide number from 0 to `2^64 - 1`.
 pub fn part(value: &Value) -> Option<u64>
-    ensures { result ≡ part_of (view value.now) }
+    ensures { result ≡ part_in (view value.now) }
 {
     let number = wide(value)?;
     if 0 <= number && number <= i128::from(u64::MAX) {
@@ -136,7 +136,7 @@ pub fn part(value: &Value) -> Option<u64>
 
 /// A wide number below `2^63` in absolute value.
 fn index_end(value: &Value) -> Option<i64>
-    ensures { result ≡ index_end_of (view value.now) }
+    ensures { result ≡ index_end_in (view value.now) }
 {
     let number = wide(value)?;
     if i128::from(i64::MIN) < number && number <= i128::from(i64::MAX) {
@@ -148,7 +148,7 @@ fn index_end(value: &Value) -> Option<i64>
 
 /// Two wide numbers.
 pub fn ends(value: &Value) -> Option<Ends>
-    ensures { result ≡ ends_of (view value.now) }
+    ensures { result ≡ ends_in (view value.now) }
 {
     let [lo, hi] = list(value)? else {
         return None;
@@ -161,7 +161,7 @@ pub fn ends(value: &Value) -> Option<Ends>
 
 /// The two ends of an index.
 pub fn index_ends(value: &Value) -> Option<(i64, i64)>
-    ensures { result ≡ index_ends_of (view value.now) }
+    ensures { result ≡ index_ends_in (view value.now) }
 {
     let [lo, hi] = list(value)? else {
         return None;
@@ -171,7 +171,7 @@ pub fn index_ends(value: &Value) -> Option<(i64, i64)>
 
 /// A row: strike, doubled width, price and two ends.
 fn row(value: &Value) -> Option<CertRow>
-    ensures { result ≡ row_of (view value.now) }
+    ensures { result ≡ row_in (view value.now) }
 {
     let [strike, d, q4, lo, hi] = list(value)? else {
         return None;
@@ -187,7 +187,7 @@ fn row(value: &Value) -> Option<CertRow>
 
 /// 14 Taylor terms.
 fn taylor_terms(value: &Value) -> Option<TaylorTerms>
-    ensures { result ≡ option_and_then taylor_named (list_of (view value.now)) }
+    ensures { result ≡ option_and_then taylor_named (list_in (view value.now)) }
 {
     let values = list(value)?;
     if values.len() == TAYLOR_TERMS {
@@ -200,7 +200,7 @@ fn taylor_terms(value: &Value) -> Option<TaylorTerms>
 /// The Taylor terms that 14 values write, where each writes one.
 fn all_parts(values: &[Value]) -> Option<TaylorTerms>
     requires { length values.now ≡ TAYLOR_TERMS }
-    ensures { result ≡ all_read part_of (map view values.now) }
+    ensures { result ≡ all_read part_in (map view values.now) }
 {
     let mut terms = [0; TAYLOR_TERMS];
     for i in 0..TAYLOR_TERMS {
@@ -211,7 +211,7 @@ fn all_parts(values: &[Value]) -> Option<TaylorTerms>
 
 /// Two lists of 14 Taylor terms.
 pub fn taylor(value: &Value) -> Option<(TaylorTerms, TaylorTerms)>
-    ensures { result ≡ taylor_of (view value.now) }
+    ensures { result ≡ taylor_in (view value.now) }
 {
     let [low, high] = list(value)? else {
         return None;
@@ -221,7 +221,7 @@ pub fn taylor(value: &Value) -> Option<(TaylorTerms, TaylorTerms)>
 
 /// The rows that values write, where each writes one.
 fn all_rows(alloc: Global, values: &[Value]) -> Result<Option<CertRows>, NoMemory>
-    ensures { IfOk result (λ rows. rows ≡ all_read row_of (map view values.now)) }
+    ensures { IfOk result (λ rows. rows ≡ all_read row_in (map view values.now)) }
 {
     let mut rows = CertRows::with_capacity(alloc, values.len())?;
     for value in values {
@@ -235,7 +235,7 @@ fn all_rows(alloc: Global, values: &[Value]) -> Result<Option<CertRows>, NoMemor
 
 /// 1 to 2,000 rows.
 pub fn rows(alloc: Global, value: &Value) -> Result<Option<CertRows>, NoMemory>
-    ensures { IfOk result (λ rows. rows ≡ rows_of (view value.now)) }
+    ensures { IfOk result (λ rows. rows ≡ rows_in (view value.now)) }
 {
     match list(value) {
         Some(values) if !values.is_empty() && values.len() <= ROWS_MAX => all_rows(alloc, values),
@@ -279,7 +279,7 @@ pub enum Kind {
 
 /// `k0`, `single`, `index` or `soq`.
 pub fn named_kind(value: &Value) -> Option<Kind>
-    ensures { result ≡ kind_of (view value.now) }
+    ensures { result ≡ kind_in (view value.now) }
 {
     match value.as_str()? {
         "k0" => Some(Kind::Level),

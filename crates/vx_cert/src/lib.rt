@@ -13,9 +13,11 @@ pub mod rows;
 mod send;
 #[cfg(test)]
 mod tests;
+mod tokens;
 mod write;
 #[cfg(test)]
 mod write_tests;
+mod written;
 
 pub use certificate::{CertBody, CertFigure, CertTerm, Certificate, Ends, Pair};
 pub use fault::CertFault;

@@ -9,7 +9,7 @@ use crate::certificate::{CertBody, CertFigure, CertTerm, Certificate};
 use crate::fault::CertFault;
 use crate::form::Kind;
 use crate::limits::{CENTS_MAX, DAYS_MAX, LINE_MAX, VERSION_MAX, VERSION_MIN};
-use crate::{field, form};
+use crate::{field, form, written};
 use serde_json::{Category, Value};
 use std::alloc::Global;
 use vx_clock::Expiry;
@@ -32,10 +32,16 @@ const TERM_NAMES: [&str; 13] = [
 /// The line is one object of JSON. Answers `Syntax` where `serde_json` refuses the line, and else
 /// `Field` with the number of the first field that is missing, of another form or out of range. So
 /// each field of a certificate that is read is in its range, and [`crate::write_cert`] can write it.
+///
+/// A line that is the very text that [`crate::write_cert`] writes takes no tree of values. Any other
+/// line, as one with spaces or with its keys in another order, is read by a tree, with the same result.
 pub fn read_cert(alloc: Global, line: &[u8]) -> Result<Certificate, CertFault>
     ensures reads { ReadsAs line.now result }
     ensures in_range { IfOk result IsCertificateInRange }
 {
+    if let Some(c) = written::read_written(alloc, line)? {
+        return Ok(c);
+    }
     match Value::from_slice(alloc, line) {
         Ok(value) => certificate(alloc, &value),
         Err(error) => Err(if error.classify() == Category::Memory {

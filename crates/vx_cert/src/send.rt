@@ -7,7 +7,7 @@ ghost use Rattle.serde_json.specs.Find.{of_integer};
 ghost use Rattle.vx_clock.specs.Clock.{clock_text};
 ghost use Rattle.vx_clock.specs.DayText.{day_text};
 ghost use Rattle.vx_clock.specs.RootText.{bare_root_text};
-ghost use Rattle.vx_cert.specs.Form.{all_read, list_of, pair_of, row_of, taylor_named, taylor_of, word_of};
+ghost use Rattle.vx_cert.specs.Form.{all_read, list_in, pair_in, row_in, taylor_named, taylor_in, word_in};
 ghost use Rattle.vx_cert.specs.Written.{ends_data, pair_data, row_data, rows_data, taylor_data, taylor_pair_data};
 ghost use Rattle.vx_cert.specs.Written.{signed_number, two_wide, whole_number, wide_number};
 
@@ -100,7 +100,7 @@ pub fn index_ends<S: Serializer>(figure: &CertFigure, out: &mut S) -> Result<(),
 /// A whole number of 32 bits.
 pub fn word<S: Serializer>(number: u32, out: &mut S) -> Result<(), S::Error>
     ensures sent { OnOk result (SendsValue (whole_number number) (S.written out.old) (S.written out.new)) }
-    ensures read_back { OnOk result (word_of (whole_number number) ≡ Some number) }
+    ensures read_back { OnOk result (word_in (whole_number number) ≡ Some number) }
 {
     out.u64(u64::from(number))
 }
@@ -126,7 +126,7 @@ pub fn rate<S: Serializer>(term: &CertTerm, out: &mut S) -> Result<(), S::Error>
 /// A strike and a difference of half prices.
 pub fn pair<S: Serializer>(pair: Pair, out: &mut S) -> Result<(), S::Error>
     ensures sent { OnOk result (SendsValue (pair_data pair) (S.written out.old) (S.written out.new)) }
-    ensures read_back { OnOk result (pair_of (pair_data pair) ≡ Some pair) }
+    ensures read_back { OnOk result (pair_in (pair_data pair) ≡ Some pair) }
 {
     out.begin_seq(Some(2))?;
     out.u64(u64::from(pair.strike))?;
@@ -138,7 +138,7 @@ pub fn pair<S: Serializer>(pair: Pair, out: &mut S) -> Result<(), S::Error>
 fn taylor_terms<S: Serializer>(terms: &TaylorTerms, out: &mut S) -> Result<(), S::Error>
     ensures sent { OnOk result (SendsValue (taylor_data terms.now) (S.written out.old) (S.written out.new)) }
     ensures read_back { OnOk result
-        (option_and_then taylor_named (list_of (taylor_data terms.now)) ≡ Some terms.now) }
+        (option_and_then taylor_named (list_in (taylor_data terms.now)) ≡ Some terms.now) }
 {
     out.begin_seq(Some(TAYLOR_TERMS))?;
     for term in terms {
@@ -155,7 +155,7 @@ pub fn taylor<S: Serializer>(
 ) -> Result<(), S::Error>
     ensures sent { OnOk result
         (SendsValue (taylor_pair_data low.now high.now) (S.written out.old) (S.written out.new)) }
-    ensures read_back { OnOk result (taylor_of (taylor_pair_data low.now high.now) ≡ Some (low.now, high.now)) }
+    ensures read_back { OnOk result (taylor_in (taylor_pair_data low.now high.now) ≡ Some (low.now, high.now)) }
 {
     out.begin_seq(Some(2))?;
     taylor_terms(low, out)?;
@@ -166,7 +166,7 @@ pub fn taylor<S: Serializer>(
 /// A row: strike, doubled width, price and two ends.
 fn row<S: Serializer>(row: CertRow, out: &mut S) -> Result<(), S::Error>
     ensures sent { OnOk result (SendsValue (row_data row) (S.written out.old) (S.written out.new)) }
-    ensures read_back { OnOk result (row_of (row_data row) ≡ Some row) }
+    ensures read_back { OnOk result (row_in (row_data row) ≡ Some row) }
 {
     out.begin_seq(Some(5))?;
     out.u64(u64::from(row.strike))?;
@@ -180,7 +180,7 @@ fn row<S: Serializer>(row: CertRow, out: &mut S) -> Result<(), S::Error>
 /// The rows of a strip.
 pub fn rows<S: Serializer>(rows: &CertRows, out: &mut S) -> Result<(), S::Error>
     ensures sent { OnOk result (SendsValue (rows_data rows.now) (S.written out.old) (S.written out.new)) }
-    ensures read_back { OnOk result (all_read row_of (map row_data rows.now) ≡ Some rows.now) }
+    ensures read_back { OnOk result (all_read row_in (map row_data rows.now) ≡ Some rows.now) }
 {
     let items = rows.items();
     out.begin_seq(Some(items.len()))?;

@@ -1,6 +1,6 @@
 //! Certificates that are read, and lines that are none.
 
-use crate::{CertBody, CertFault, CertRow, CertRows, Pair, read_cert};
+use crate::{CertBody, CertFault, CertRow, CertRows, Pair, read_cert, write_cert};
 use std::test::Fail;
 use vx_clock::{DayNo, Expiry, Root};
 
@@ -32,6 +32,23 @@ fn reads_a_level_certificate(rt: HostRuntime) -> Result<(), Fail> {
             assert_eq!(rt; k0, 2_000_000);
         }
         _ => return Err(Fail::from("another kind")),
+    }
+    Ok(())
+}
+
+/// Each of these is the line of `LEVEL` with spaces, or with its keys in another order.
+#[test]
+fn reads_other_spellings(rt: HostRuntime) -> Result<(), Fail> {
+    let cases: [&str; 2] = [
+        "{\"date\": \"2014-10-17\", \"k0\": 2000000, \"kind\": \"k0\", \"line\": 14, \"pair\": [2000000, 0], \"root\": \"SPX\", \"time\": \"08:30\", \"v\": 1}",
+        "{\"v\":1,\"kind\":\"k0\",\"line\":14,\"time\":\"08:30\",\"root\":\"SPX\",\"date\":\"2014-10-17\",\"pair\":[2000000,0],\"k0\":2000000}",
+    ];
+    for line in cases {
+        let certificate = read_cert(rt.alloc(), line.as_bytes())?;
+        let mut written = Vec::new(rt.alloc());
+        write_cert(rt.alloc(), &certificate, &mut written)?;
+        written.pop();
+        assert_eq!(rt; written.as_slice(), LEVEL.as_bytes());
     }
     Ok(())
 }

@@ -55,7 +55,7 @@ fn line_of(alloc: Global, c: &Certificate) -> Result<Vec<u8>, NoMemory>
 
 /// The text of a certificate, as `serde_json` writes what the certificate sends. It tests that the text is
 /// UTF-8; an error can only be want of memory, since each field is in its range.
-fn text_of(alloc: Global, c: &Certificate) -> Result<Vec<u8>, NoMemory>
+pub(crate) fn text_of(alloc: Global, c: &Certificate) -> Result<Vec<u8>, NoMemory>
     requires { IsCertificateInRange c.now }
     ensures text { IfOk result (λ text. text.items ≡ certificate_line c.now) }
     ensures value { OnOk result (IsValueOf (certificate_line c.now) (certificate_data c.now)) }
