@@ -1,9 +1,7 @@
 -- What the parts of a quote's line are together.
-use Rattle.std.proofs.Common.{◌≡◌, refl, sym, ap, ◌∙◌, ℕ, ◌/◌, ◌%◌, List, [], ◌∷◌, ◌++◌, append_assoc, arith}
+use Rattle.std.proofs.Common.{◌≡◌, refl, sym, ap, ◌∙◌, ℕ, List, [], ◌∷◌, ◌++◌, append_assoc}
 use Rattle.std.specs.Prelude.{slice_set}
 use Rattle.std.proofs.lemmas.List.{append-nil}
-use Rattle.vx_num.specs.Written.{digit_byte, natural_text, last_digits}
-use Rattle.vx_num.proofs.ReadBack.{decimal_text_parts}
 use Rattle.vx_clock.specs.Clock.{clock_text}
 use Rattle.vx_clock.specs.declared.terms.Expiry.{Expiry}
 use Rattle.vx_clock.specs.declared.terms.Root.{Root}
@@ -16,19 +14,6 @@ use Rattle.vx_feed.specs.declared.events.Event.TheVariants as event
 use Rattle.vx_feed.specs.declared.events.Event.{Event}
 use Rattle.vx_feed.specs.Written.{event_line, event_text, text_of_events, price_text}
 use Rattle.vx_make.specs.Quotes.{sample_series_at}
-
-two_last_digits : (cents : ℕ) → last_digits 2 cents ≡ digit_byte (cents / 10 % 10) ∷ digit_byte (cents % 10) ∷ []
-unfolding last_digits
-two_last_digits cents = refl
-
-price_parts : (cents : ℕ) → price_text cents ≡ natural_text (cents / 100) ++ 46 ∷ digit_byte (cents / 10 % 10) ∷ digit_byte (cents % 10) ∷ []
-price_parts cents = decimal_text_parts cents 2 (omega arith) ∙ ap (λ t. natural_text (cents / 100) ++ 46 ∷ t) (two_last_digits cents)
-
--- points, dot and digits, with what stands behind them
-pub price_before : (cents : ℕ) (rest : List ℕ) → natural_text (cents / 100) ++ 46 ∷ digit_byte (cents / 10 % 10) ∷ digit_byte (cents % 10) ∷ rest ≡ price_text cents ++ rest
-price_before cents rest =
-    sym (append_assoc (natural_text (cents / 100)) (46 ∷ digit_byte (cents / 10 % 10) ∷ digit_byte (cents % 10) ∷ []) rest)
-    ∙ ap (λ t. t ++ rest) (sym (price_parts cents))
 
 -- fields behind commas, and what stands behind them
 fields_before : (a b c rest : List ℕ) → (a ++ 44 ∷ (b ++ 44 ∷ (c ++ []))) ++ rest ≡ a ++ 44 ∷ (b ++ 44 ∷ (c ++ rest))

@@ -8,12 +8,12 @@ use Rattle.vx_clock.specs.declared.terms.Expiry.{Expiry}
 use Rattle.vx_feed.specs.declared.events.Event.{Event}
 use Rattle.vx_feed.specs.declared.events.Event.TheVariants as event
 use Rattle.vx_feed.specs.Feed.{Reading}
-use Rattle.vx_feed.specs.Order.{is_end}
+use Rattle.vx_feed.specs.Order.{is_end, tick_minute}
 use Rattle.vx_feed.proofs.EndLaws.{end_is_last}
 use Rattle.vx_make.specs.Drawing.{next_state, state_after}
 use Rattle.vx_make.specs.Quotes.{for_each, drawn_quote, strike_quotes, expiry_quotes, drawn_centre}
 use Rattle.vx_make.specs.Feed.{header, standard_term, weekly_term, strike_series, listed_series, tick_events, ticks_events, body_events, make_events}
-use Rattle.vx_make.specs.Lawful.{SamplesEnd, SampleLinesAreOfEvents, SamplesAreReadBack, SampleTextsAreLawful, SamplesTickByMinute, SamplesHaveTheirTicks, tick_minute, tick_minutes}
+use Rattle.vx_make.specs.Lawful.{SamplesEnd, SampleLinesAreOfEvents, SamplesAreReadBack, SampleTextsAreLawful, SamplesTickByMinute, SamplesHaveTheirTicks, tick_minutes}
 use Rattle.vx_make.proofs.FeedLemmas.{length-for_each}
 use Rattle.vx_make.proofs.SampleEvents.{samples_are_lawful}
 use Rattle.vx_make.proofs.WrittenEvents.{lines_are_of_events, texts_are_read_back}

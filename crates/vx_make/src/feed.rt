@@ -208,10 +208,9 @@ pub fn make_feed(alloc: Global, number: u32, ticks: u32) -> Result<Vec<u8>, NoMe
     requires most { ticks ≤ TICKS_MAX }
     ensures { IfOk result (λ feed. feed.items ≡ spec.make_text number ticks) }
 {
-    // No line is longer than that of a quote, so the room is taken once.
-    let lines = 2 + TERM_LINES + TICK_LINES * ticks;
-    let mut out = Vec::with_capacity(alloc, LINE_ROOM * lines as usize)?;
+    let mut out = Vec::new(alloc);
     put_head(alloc, &mut out)?;
+    // The room of all ticks is taken at once, since no line of theirs is longer than that of a quote.
     out.reserve(TICK_ROOM * ticks as usize)?;
     put_ticks(&mut out, number, ticks);
     put_end(alloc, &mut out, ticks)?;

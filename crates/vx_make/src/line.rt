@@ -2,8 +2,7 @@
 //! made of little else and a piece of memory for each would cost more than its digits. They are appended where
 //! room for them was taken before, so that none of them can want memory.
 
-ghost use Rattle.std.specs.Prelude.{◌≡◌, ◌+◌, ◌-◌, ◌*◌, ◌^◌, ◌<◌, ◌≤◌, ◌∷◌, ◌++◌, drop, length, vec_capacity, vec_len};
-ghost use Rattle.vx_num.specs.Written.{digit_byte, natural_text};
+ghost use Rattle.std.specs.Prelude.{◌≡◌, ◌+◌, ◌≤◌, ◌∷◌, ◌++◌, drop, length, vec_capacity, vec_len};
 ghost use Rattle.vx_clock.specs.Clock.{clock_text};
 ghost use Rattle.vx_symbol.specs.SymbolText.{symbol_text};
 ghost use Rattle.vx_feed.specs.declared.events.Event.TheVariants as event;
@@ -12,66 +11,14 @@ ghost use Rattle.vx_symbol.specs.declared.symbols.Symbol.{Symbol};
 
 use crate::quotes::Prices;
 use vx_clock::write_clock;
+use vx_room::{put, put_all, put_decimal, written};
 use vx_symbol::limits::{PRICE_MAX, SYMBOL_LEN};
 
-/// The longest line of a tick, which is that of a quote: kind and minute with their commas, a symbol, two prices with the commas before them,
-/// and LF.
+/// The longest line of a tick, a quote's: kind and minute, a symbol, two prices behind commas, and LF.
 pub(crate) const LINE_ROOM: usize = 8 + SYMBOL_LEN + 2 * (1 + PRICE_ROOM) + 1;
 
 /// The longest price: five digits of points, a dot and two digits.
 const PRICE_ROOM: usize = 8;
-
-// A line is written from its end: what has been written stands from a place on, and each call answers the place
-// of what it put in front. (The place is a value of its own, so that it need not go through memory at each byte.)
-fn put(bytes: &mut [u8; LINE_ROOM], end: usize, byte: u8) -> usize
-    requires some { 1 ≤ end }
-    requires within { end ≤ LINE_ROOM }
-    ensures start { result ≡ end - 1 }
-    ensures written { drop result bytes.new ≡ byte ∷ drop end bytes.old }
-{
-    let start = end - 1;
-    bytes[start] = byte;
-    start
-}
-
-fn put_digit(bytes: &mut [u8; LINE_ROOM], end: usize, digit: u8) -> usize
-    requires some { 1 ≤ end }
-    requires within { end ≤ LINE_ROOM }
-    requires digit { digit < 10 }
-    ensures start { result ≡ end - 1 }
-    ensures written { drop result bytes.new ≡ digit_byte digit ∷ drop end bytes.old }
-{
-    put(bytes, end, b'0' + digit)
-}
-
-fn put_all(bytes: &mut [u8; LINE_ROOM], end: usize, text: &[u8]) -> usize
-    requires room { length text.now ≤ end }
-    requires within { end ≤ LINE_ROOM }
-    ensures start { result ≡ end - length text.now }
-    ensures written { drop result bytes.new ≡ text.now ++ drop end bytes.old }
-{
-    let start = end - text.len();
-    bytes[start..end].copy_from_slice(text);
-    start
-}
-
-// The points of a price, without leading zeros.
-fn put_points(bytes: &mut [u8; LINE_ROOM], end: usize, points: u32) -> usize
-    requires room { 5 ≤ end }
-    requires within { end ≤ LINE_ROOM }
-    requires most { points < 10 ^ 5 }
-    ensures least { end ≤ result + 5 }
-    ensures within { result ≤ end }
-    ensures written { drop result bytes.new ≡ natural_text points ++ drop end bytes.old }
-{
-    let mut start = end;
-    let mut rest = points;
-    while rest >= 10 {
-        start = put_digit(bytes, start, (rest % 10) as u8);
-        rest /= 10;
-    }
-    put_digit(bytes, start, rest as u8)
-}
 
 // A price behind its comma.
 fn put_price(bytes: &mut [u8; LINE_ROOM], end: usize, cents: u32) -> usize
@@ -82,10 +29,7 @@ fn put_price(bytes: &mut [u8; LINE_ROOM], end: usize, cents: u32) -> usize
     ensures within { result ≤ end }
     ensures written { drop result bytes.new ≡ 44 ∷ price_text cents ++ drop end bytes.old }
 {
-    let tenths = put_digit(bytes, end, (cents % 10) as u8);
-    let dot = put_digit(bytes, tenths, (cents / 10 % 10) as u8);
-    let points = put(bytes, dot, b'.');
-    let comma = put_points(bytes, points, cents / 100);
+    let comma = put_decimal(bytes, end, u64::from(cents), 2);
     put(bytes, comma, b',')
 }
 
@@ -100,15 +44,6 @@ fn put_start(bytes: &mut [u8; LINE_ROOM], end: usize, time: u16) -> usize
     let comma = put_all(bytes, minute, &write_clock(time));
     let kind = put(bytes, comma, b',');
     put(bytes, kind, b'Q')
-}
-
-// What has been written.
-fn written(bytes: &[u8; LINE_ROOM], start: usize) -> &[u8]
-    requires { start ≤ LINE_ROOM }
-    ensures text { result.now ≡ drop start bytes.now }
-    ensures most { length result.now ≤ LINE_ROOM }
-{
-    &bytes[start..]
 }
 
 // Appends a line for which there is room.

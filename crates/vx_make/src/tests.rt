@@ -1,4 +1,4 @@
-//! The first and the last lines of a sample feed.
+//! The first and the last lines of a sample feed, and its pieces.
 
 use super::*;
 use std::test::Fail;
@@ -23,5 +23,20 @@ fn a_feed_is_made(rt: HostRuntime) -> Result<(), Fail> {
     assert!(rt; text.starts_with(FIRST_LINES));
     assert!(rt; text.contains(FIRST_QUOTES));
     assert!(rt; text.ends_with(LAST_LINES));
+    Ok(())
+}
+
+#[test]
+fn the_pieces_are_the_feed(rt: HostRuntime) -> Result<(), Fail> {
+    let feed = make_feed(rt.alloc(), 7, 2)?;
+    let mut pieces = SampleFeed::new(rt.alloc(), 7, 2)?;
+    let mut text = Vec::new(rt.alloc());
+    text.extend_from_slice(pieces.head())?;
+    pieces.make_tick();
+    text.extend_from_slice(pieces.tick_lines())?;
+    pieces.make_tick();
+    text.extend_from_slice(pieces.tick_lines())?;
+    text.extend_from_slice(pieces.last_line())?;
+    assert!(rt; text == feed);
     Ok(())
 }

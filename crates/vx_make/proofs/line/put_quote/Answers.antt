@@ -12,4 +12,4 @@ returns-clause-written c series symbol =
     let bid = c.put_price-named.ensures.written ∙ ap (λ t. 44 ∷ (price_text c.args.prices.bid ++ t)) ask in
     let named = c.put_all-series.ensures.written ∙ ap (λ t. t ++ drop c.put_price-named.result c.put_price-named.new.bytes) symbol ∙ ap (λ t. symbol_text series ++ t) bid in
     let line = c.put_start-start.ensures.written ∙ ap (λ t. 81 ∷ 44 ∷ clock_text c.args.time ++ 44 ∷ t) named ∙ quote_parts c.args.time series c.args.prices.bid c.args.prices.ask in
-    c.append.ensures.written ∙ ap (λ t. c.args.out.now.items ++ t) (c.written.ensures.text ∙ line)
+    c.append.ensures.written ∙ ap (λ t. c.args.out.now.items ++ t) (c.written.ensures ∙ line)
