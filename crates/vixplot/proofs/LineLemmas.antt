@@ -6,7 +6,7 @@ use Rattle.std.proofs.lemmas.List.{length-map}
 use Rattle.std.proofs.lemmas.Bool.Decides.{nat_tests}
 use Rattle.vx_num.specs.Decimal.{is_minus}
 use Rattle.vixplot.specs.declared.answer.Line.{Line}
-use Rattle.vixplot.specs.Lines.{SaysLine, Text, field, forward_answer, tick_line}
+use Rattle.vixplot.specs.Lines.{SaysLine, LineText, nth_field, forward_answer, tick_line}
 
 -- what stands behind a minus sign, where the text begins with one; else the text
 pub unsigned_of : (text : List ℕ) (r : Option (Bor (List ℕ))) (whole : Bor (List ℕ)) → whole.now ≡ text
@@ -21,14 +21,14 @@ unsigned_of (b ∷ bs) None whole same is = by (b == 45) refl
     by true h = absurd (is bs (ap (λ x. x ∷ bs) (grind (arith, nat_tests))))
 
 -- the text at a place of a list of texts, which is empty past the end
-abbrev pub text_at : List (Bor Text) → ℕ → Text
+abbrev pub text_at : List (Bor LineText) → ℕ → LineText
 text_at fields i = (slice_index_or fields i (record { ref_ptr = (0, 0); now = [] })).now
 
-text_of_field : (fields : List (Bor Text)) (i : ℕ) → text_at fields i ≡ slice_index_or (map (λ x. x.now) fields) i []
+text_of_field : (fields : List (Bor LineText)) (i : ℕ) → text_at fields i ≡ slice_index_or (map (λ x. x.now) fields) i []
 text_of_field fields i = sym (get_or-map (λ x. x.now) fields i (record { ref_ptr = (0, 0); now = [] }))
 
 -- a line of eight fields that tells an undecided forward says so
-pub forward_said : (fields : List (Bor Text)) (line : Option Line) → 8 ≤ length fields → length fields < 9
+pub forward_said : (fields : List (Bor LineText)) (line : Option Line) → 8 ≤ length fields → length fields < 9
     → text_at fields 0 ≡ codes "UND" → text_at fields 3 ≡ codes "forward"
     → line ≡ tick_line (text_at fields 1) (text_at fields 2) (forward_answer (text_at fields 4) (text_at fields 5) (text_at fields 6) (text_at fields 7))
     → SaysLine (map (λ x. x.now) fields) line
@@ -37,15 +37,15 @@ forward_said fields line least most kind forward said =
     let count : length texts ≡ length fields = length-map fields (λ x. x.now) in
     let at = λ (i : ℕ). text_of_field fields i in
     let answer : forward_answer (text_at fields 4) (text_at fields 5) (text_at fields 6) (text_at fields 7)
-    ≡ forward_answer (field texts 5) (field texts 6) (field texts 7) (field texts 8) =
+    ≡ forward_answer (nth_field texts 5) (nth_field texts 6) (nth_field texts 7) (nth_field texts 8) =
     ap (λ x. forward_answer x (text_at fields 5) (text_at fields 6) (text_at fields 7)) (at 4)
-    ∙ ap (λ x. forward_answer (field texts 5) x (text_at fields 6) (text_at fields 7)) (at 5)
-    ∙ ap (λ x. forward_answer (field texts 5) (field texts 6) x (text_at fields 7)) (at 6)
-    ∙ ap (λ x. forward_answer (field texts 5) (field texts 6) (field texts 7) x) (at 7) in
-    let told : line ≡ tick_line (field texts 2) (field texts 3) (forward_answer (field texts 5) (field texts 6) (field texts 7) (field texts 8)) =
+    ∙ ap (λ x. forward_answer (nth_field texts 5) x (text_at fields 6) (text_at fields 7)) (at 5)
+    ∙ ap (λ x. forward_answer (nth_field texts 5) (nth_field texts 6) x (text_at fields 7)) (at 6)
+    ∙ ap (λ x. forward_answer (nth_field texts 5) (nth_field texts 6) (nth_field texts 7) x) (at 7) in
+    let told : line ≡ tick_line (nth_field texts 2) (nth_field texts 3) (forward_answer (nth_field texts 5) (nth_field texts 6) (nth_field texts 7) (nth_field texts 8)) =
     said ∙ ap (λ x. tick_line x (text_at fields 2) (forward_answer (text_at fields 4) (text_at fields 5) (text_at fields 6) (text_at fields 7))) (at 1)
-    ∙ ap (λ x. tick_line (field texts 2) x (forward_answer (text_at fields 4) (text_at fields 5) (text_at fields 6) (text_at fields 7))) (at 2)
-    ∙ ap (tick_line (field texts 2) (field texts 3)) answer in
+    ∙ ap (λ x. tick_line (nth_field texts 2) x (forward_answer (text_at fields 4) (text_at fields 5) (text_at fields 6) (text_at fields 7))) (at 2)
+    ∙ ap (tick_line (nth_field texts 2) (nth_field texts 3)) answer in
     record {
       figure = λ h. let other = h.0 in absurd (omega arith);
       cents = λ h same. let other = h.0 in absurd (omega arith);

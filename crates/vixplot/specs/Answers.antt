@@ -30,13 +30,13 @@ abbrev pub IsLineInRange : Line → Type 0
 IsLineInRange (TickLine tick) = IsTickInRange tick
 IsLineInRange (End counts) = Unit {0}
 
-abbrev pub is_published : Answer → Bool
-is_published (Figure cents) = true
-is_published _ = false
+abbrev pub shows_figure : Answer → Bool
+shows_figure (Figure cents) = true
+shows_figure _ = false
 
-abbrev pub is_refused : Answer → Bool
-is_refused (Refused reason which) = true
-is_refused _ = false
+abbrev pub shows_refusal : Answer → Bool
+shows_refusal (Refused reason which) = true
+shows_refusal _ = false
 
-abbrev pub is_undecided : Answer → Bool
-is_undecided answer = not (is_published answer) && not (is_refused answer)
+abbrev pub shows_undecided : Answer → Bool
+shows_undecided answer = not (shows_figure answer) && not (shows_refusal answer)

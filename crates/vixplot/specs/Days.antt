@@ -9,15 +9,15 @@ use Rattle.vixplot.specs.declared.day.Marks.{Marks}
 use Rattle.vixplot.specs.declared.fault.Fault.{Fault}
 use Rattle.vixplot.specs.declared.fault.Fault.TheVariants.{AfterEnd, EndCount, NoMemory, TimeBack, TooMany}
 use Rattle.vixplot.specs.declared.limits.TheConstants.{TICKS_MAX}
-use Rattle.vixplot.specs.Answers.{is_published, is_refused, is_undecided, mark_of}
+use Rattle.vixplot.specs.Answers.{shows_figure, shows_refusal, shows_undecided, mark_of}
 
 -- how many ticks there are, and how many of them are answered in each way
 abbrev pub counts_of : List Tick → Counts
 counts_of ticks = record {
   ticks = length ticks;
-  published = count_by (λ (tick : Tick). is_published tick.answer) ticks;
-  undecided = count_by (λ (tick : Tick). is_undecided tick.answer) ticks;
-  refused = count_by (λ (tick : Tick). is_refused tick.answer) ticks;
+  published = count_by (λ (tick : Tick). shows_figure tick.answer) ticks;
+  undecided = count_by (λ (tick : Tick). shows_undecided tick.answer) ticks;
+  refused = count_by (λ (tick : Tick). shows_refusal tick.answer) ticks;
 }
 
 -- the figures of a day in order
@@ -39,9 +39,9 @@ ticks_with ticks (TickLine tick) = ticks ++ tick ∷ []
 ticks_with ticks (End counts) = ticks
 
 -- END, which ends the day
-abbrev pub is_end : Line → Bool
-is_end (TickLine tick) = false
-is_end (End counts) = true
+abbrev pub ends_day : Line → Bool
+ends_day (TickLine tick) = false
+ends_day (End counts) = true
 
 -- a tick's time is no earlier than that of the last of these; or it is
 abbrev pub IsInTime : List Tick → Tick → Type 0

@@ -16,41 +16,41 @@ use Rattle.vixplot.specs.declared.answer.Which.TheVariants.{Near, Next, Both}
 use Rattle.vixplot.specs.declared.limits.TheConstants.{DAYS_MAX, ENDS_PLACES, FORWARD_PLACES, STRIKE_PLACES}
 
 -- the bytes of a text
-abbrev pub Text : Type 0
-Text = List ℕ
+abbrev pub LineText : Type 0
+LineText = List ℕ
 
 -- the pieces of a line between its commas (44)
-abbrev pub fields_of : Text → List Text
+abbrev pub fields_of : LineText → List LineText
 fields_of line = slice_split (λ byte. byte == 44) line
 
 -- the n-th field, from 1
-abbrev pub field : List Text → ℕ → Text
-field fields n = slice_index_or fields (n - 1) []
+abbrev pub nth_field : List LineText → ℕ → LineText
+nth_field fields n = slice_index_or fields (n - 1) []
 
 -- digits, a dot, and just so many digits behind it
-abbrev pub is_unsigned : ℕ → Text → Bool
+abbrev pub is_unsigned : ℕ → LineText → Bool
 is_unsigned places text =
     is_digits (before_first is_dot text) && is_digits (after_first is_dot text)
     && length (after_first is_dot text) == places
 
 -- the same, where a `-` may stand in front
-abbrev pub is_number : ℕ → Text → Bool
+abbrev pub is_number : ℕ → LineText → Bool
 is_number places text = is_unsigned places (if is_minus (slice_index text 0) then drop 1 text else text)
 
 -- the days ahead, 0 to 1,000
-abbrev pub is_days : Text → Bool
+abbrev pub is_days : LineText → Bool
 is_days text = is_ok (decimal_of text 0 DAYS_MAX)
 
 -- a count of ticks, at most as many as a feed may have lines
-abbrev pub count_of : Text → Option ℕ
+abbrev pub count_of : LineText → Option ℕ
 count_of text = result_ok (decimal_of text 0 FEED_LINES_MAX)
 
 -- a figure in hundredths of a point, from points with two places
-abbrev pub cents_of_points : Text → Option ℕ
+abbrev pub cents_of_points : LineText → Option ℕ
 cents_of_points text = if is_number 2 text then result_ok (decimal_of text 2 CENTS_MAX) else None
 
 -- the term or the terms that an answer speaks of
-abbrev pub which_of_word : Text → Option Which
+abbrev pub which_of_word : LineText → Option Which
 which_of_word text =
     if bytes_eq text (codes "near") then Some Near
     else if bytes_eq text (codes "next") then Some Next
@@ -58,7 +58,7 @@ which_of_word text =
     else None
 
 -- the reason of a refusal
-abbrev pub reason_of_word : Text → Option Reason
+abbrev pub reason_of_word : LineText → Option Reason
 reason_of_word text =
     if bytes_eq text (codes "no-term") then Some NoTerm
     else if bytes_eq text (codes "no-rate") then Some NoRate
@@ -73,31 +73,31 @@ reason_of_word text =
     else None
 
 -- both ends are numbers with so many places
-abbrev pub are_ends : ℕ → Text → Text → Bool
+abbrev pub are_ends : ℕ → LineText → LineText → Bool
 are_ends places lo hi = is_number places lo && is_number places hi
 
 -- what stands behind the days: a figure and its ends
-abbrev pub figure_answer : Text → Text → Text → Option Answer
+abbrev pub figure_answer : LineText → LineText → LineText → Option Answer
 figure_answer figure lo hi = if are_ends ENDS_PLACES lo hi then option_map Figure (cents_of_points figure) else None
 
 -- the ends of an undecided figure
-abbrev pub cents_answer : Text → Text → Option Answer
+abbrev pub cents_answer : LineText → LineText → Option Answer
 cents_answer lo hi = if are_ends ENDS_PLACES lo hi then Some UndecidedCents else None
 
 -- a term, a strike and the ends of the undecided forward
-abbrev pub forward_answer : Text → Text → Text → Text → Option Answer
+abbrev pub forward_answer : LineText → LineText → LineText → LineText → Option Answer
 forward_answer which strike lo hi =
     if is_number STRIKE_PLACES strike && are_ends FORWARD_PLACES lo hi
     then option_map UndecidedForward (which_of_word which)
     else None
 
 -- the reason and the term of a refusal
-abbrev pub refusal_answer : Text → Text → Option Answer
+abbrev pub refusal_answer : LineText → LineText → Option Answer
 refusal_answer reason which =
     option_and_then (λ r. option_map (λ w. Refused r w) (which_of_word which)) (reason_of_word reason)
 
 -- the tick of a time, the days ahead and an answer
-abbrev pub tick_line : Text → Text → Option Answer → Option Line
+abbrev pub tick_line : LineText → LineText → Option Answer → Option Line
 tick_line time days None = None
 tick_line time days (Some answer) =
     if is_days days
@@ -111,14 +111,14 @@ end_of (Some ticks) (Some published) (Some undecided) (Some refused) =
 end_of _ _ _ _ = None
 
 -- so many fields, of which the first is this word
-abbrev pub HasForm : List Text → Text → ℕ → Type 0
-HasForm fields word count = (length fields ≡ count) × (field fields 1 ≡ word)
+abbrev pub HasForm : List LineText → LineText → ℕ → Type 0
+HasForm fields word count = (length fields ≡ count) × (nth_field fields 1 ≡ word)
 
 -- the fields are of one of the five forms
-abbrev pub HasAnyForm : List Text → Type 0
+abbrev pub HasAnyForm : List LineText → Type 0
 HasAnyForm fields =
-    HasForm fields (codes "FIG") 6 ⊎ (HasForm fields (codes "UND") 6 × (field fields 4 ≡ codes "cents"))
-    ⊎ (HasForm fields (codes "UND") 8 × (field fields 4 ≡ codes "forward"))
+    HasForm fields (codes "FIG") 6 ⊎ (HasForm fields (codes "UND") 6 × (nth_field fields 4 ≡ codes "cents"))
+    ⊎ (HasForm fields (codes "UND") 8 × (nth_field fields 4 ≡ codes "forward"))
     ⊎ HasForm fields (codes "REF") 5 ⊎ HasForm fields (codes "END") 5
 
 -- what the fields of a line say, by its form:
@@ -128,18 +128,18 @@ HasAnyForm fields =
 --   REF,hh:mm,days,reason,which
 --   END,ticks,published,undecided,refused
 -- and None where the line is of none of these
-pub record SaysLine (fields : List Text) (line : Option Line) : Type 0 where
+pub record SaysLine (fields : List LineText) (line : Option Line) : Type 0 where
   pub figure : HasForm fields (codes "FIG") 6
-      → line ≡ tick_line (field fields 2) (field fields 3)
-      (figure_answer (field fields 4) (field fields 5) (field fields 6))
-  pub cents : HasForm fields (codes "UND") 6 → field fields 4 ≡ codes "cents"
-      → line ≡ tick_line (field fields 2) (field fields 3) (cents_answer (field fields 5) (field fields 6))
-  pub forward : HasForm fields (codes "UND") 8 → field fields 4 ≡ codes "forward"
-      → line ≡ tick_line (field fields 2) (field fields 3)
-      (forward_answer (field fields 5) (field fields 6) (field fields 7) (field fields 8))
+      → line ≡ tick_line (nth_field fields 2) (nth_field fields 3)
+      (figure_answer (nth_field fields 4) (nth_field fields 5) (nth_field fields 6))
+  pub cents : HasForm fields (codes "UND") 6 → nth_field fields 4 ≡ codes "cents"
+      → line ≡ tick_line (nth_field fields 2) (nth_field fields 3) (cents_answer (nth_field fields 5) (nth_field fields 6))
+  pub forward : HasForm fields (codes "UND") 8 → nth_field fields 4 ≡ codes "forward"
+      → line ≡ tick_line (nth_field fields 2) (nth_field fields 3)
+      (forward_answer (nth_field fields 5) (nth_field fields 6) (nth_field fields 7) (nth_field fields 8))
   pub refusal : HasForm fields (codes "REF") 5
-      → line ≡ tick_line (field fields 2) (field fields 3) (refusal_answer (field fields 4) (field fields 5))
+      → line ≡ tick_line (nth_field fields 2) (nth_field fields 3) (refusal_answer (nth_field fields 4) (nth_field fields 5))
   pub counts : HasForm fields (codes "END") 5
-      → line ≡ end_of (count_of (field fields 2)) (count_of (field fields 3))
-      (count_of (field fields 4)) (count_of (field fields 5))
+      → line ≡ end_of (count_of (nth_field fields 2)) (count_of (nth_field fields 3))
+      (count_of (nth_field fields 4)) (count_of (nth_field fields 5))
   pub other : ¬ HasAnyForm fields → line ≡ None

@@ -1,7 +1,7 @@
 //! What the lines of a day say.
 
 ghost use Rattle.std.specs.Prelude.{◌≡◌};
-ghost use Rattle.vixplot.specs.Answers.{is_published, is_refused, is_undecided};
+ghost use Rattle.vixplot.specs.Answers.{shows_figure, shows_refusal, shows_undecided};
 
 use std::fmt;
 
@@ -64,7 +64,7 @@ pub enum Line {
 impl Answer {
     /// It is a figure.
     pub fn is_published(self) -> bool
-        ensures { result ≡ is_published self }
+        ensures { result ≡ shows_figure self }
     {
         match self {
             Answer::Figure(_) => true,
@@ -74,7 +74,7 @@ impl Answer {
 
     /// It is a refusal.
     pub fn is_refused(self) -> bool
-        ensures { result ≡ is_refused self }
+        ensures { result ≡ shows_refusal self }
     {
         match self {
             Answer::Refused(_, _) => true,
@@ -84,7 +84,7 @@ impl Answer {
 
     /// It is neither.
     pub fn is_undecided(self) -> bool
-        ensures { result ≡ is_undecided self }
+        ensures { result ≡ shows_undecided self }
     {
         !self.is_published() && !self.is_refused()
     }

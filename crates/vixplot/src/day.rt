@@ -2,8 +2,8 @@
 
 ghost use Rattle.std.specs.Prelude.{◌≡◌, ◌≤◌, ◌++◌, [], ◌∷◌, false, IfErr, IfNone, IfOk, IfSome, OnErr, OnOk, All, Contains, IsTrue, MatchBool, count_by};
 ghost use Rattle.std.proofs.Props.{props};
-ghost use Rattle.vixplot.specs.Answers.{IsLineInRange, IsTickInRange, is_published, is_refused, is_undecided, mark_of};
-ghost use Rattle.vixplot.specs.Days.{AreMarks, IsInTime, IsDayFault, IsNext, IsTickFault, IsTimeBack, counts_of, figures_of, is_end, ticks_with};
+ghost use Rattle.vixplot.specs.Answers.{IsLineInRange, IsTickInRange, shows_figure, shows_refusal, shows_undecided, mark_of};
+ghost use Rattle.vixplot.specs.Days.{AreMarks, IsInTime, IsDayFault, IsNext, IsTickFault, IsTimeBack, counts_of, figures_of, ends_day, ticks_with};
 
 use crate::answer::{Answer, Counts, Line, Tick};
 use crate::fault::Fault;
@@ -49,7 +49,7 @@ impl Day {
     pub fn take(&mut self, line: Line) -> Result<(), Fault>
         requires range { IsLineInRange line }
         ensures ticks { OnOk result (self.new.ticks.items ≡ ticks_with self.old.ticks.items line) }
-        ensures end { OnOk result (self.new.has_end ≡ is_end line) }
+        ensures end { OnOk result (self.new.has_end ≡ ends_day line) }
         ensures before { OnOk result (self.old.has_end ≡ false) }
         ensures next { OnOk result (IsNext self.old.ticks.items line) }
         ensures refused { OnErr result (self.new.ticks.items ≡ self.old.ticks.items) }
@@ -122,7 +122,7 @@ pub fn counts_of(ticks: &[Tick]) -> Counts
 }
 
 fn count_published(ticks: &[Tick]) -> u64
-    ensures { result ≡ count_by (λ tick. is_published tick.answer) ticks.now }
+    ensures { result ≡ count_by (λ tick. shows_figure tick.answer) ticks.now }
 {
     ticks
         .iter()
@@ -131,7 +131,7 @@ fn count_published(ticks: &[Tick]) -> u64
 }
 
 fn count_undecided(ticks: &[Tick]) -> u64
-    ensures { result ≡ count_by (λ tick. is_undecided tick.answer) ticks.now }
+    ensures { result ≡ count_by (λ tick. shows_undecided tick.answer) ticks.now }
 {
     ticks
         .iter()
@@ -140,7 +140,7 @@ fn count_undecided(ticks: &[Tick]) -> u64
 }
 
 fn count_refused(ticks: &[Tick]) -> u64
-    ensures { result ≡ count_by (λ tick. is_refused tick.answer) ticks.now }
+    ensures { result ≡ count_by (λ tick. shows_refusal tick.answer) ticks.now }
 {
     ticks.iter().filter(|tick| tick.answer.is_refused()).count() as u64
 }

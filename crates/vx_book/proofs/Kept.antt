@@ -12,7 +12,7 @@ use Rattle.vx_feed.specs.declared.events.Event.{Event}
 use Rattle.vx_feed.specs.declared.events.Event.TheVariants as event
 use Rattle.vx_feed.specs.Same.{is_same_expiry, is_same_series, is_same_side}
 use Rattle.vx_feed.specs.Standing.{BidAsk, is_opening, lists_series, opening_trade, quote_of, standing_quote, trade_of}
-use Rattle.vx_feed.specs.Listed.{expiry_of, is_listed, opposite, other_side, quoted_price, standing_price}
+use Rattle.vx_feed.specs.Listed.{expiry_of, is_listed, opposite, other_side, quoted_price, standing_price, price_of}
 use Rattle.vx_feed.specs.Next.{quote_after, trade_after}
 use Rattle.vx_feed.proofs.NextEvent.{next_quote, next_trade}
 use Rattle.vx_feed.proofs.SameLemmas.{expiry_from_same, series-sym}
@@ -20,7 +20,6 @@ use Rattle.vx_book.specs.declared.series.Place.{Place}
 use Rattle.vx_book.specs.declared.series.Place.TheVariants.{Alone, Row}
 use Rattle.vx_book.specs.declared.series.Series.{Series}
 use Rattle.vx_book.specs.declared.table.Table.{Table}
-use Rattle.vx_book.specs.Tables.{price_of}
 use Rattle.vx_book.specs.StandsFor.{KeptStandsFor, PlaceStandsFor, SeriesStandsFor, strike_kept}
 use Rattle.vx_feed.proofs.SameAfter.{listed_same, listed_still, price_same, trade_opened, trade_same}
 use Rattle.vx_book.proofs.Terms.{expiry_itself}

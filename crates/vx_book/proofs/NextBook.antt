@@ -27,7 +27,7 @@ use Rattle.vx_book.specs.declared.table.Table.{Table}
 use Rattle.vx_feed.specs.NextRows.{is_listing}
 use Rattle.vx_book.specs.Series.{kept}
 use Rattle.vx_book.specs.Tables.{ArePlaces, strike_of_row}
-use Rattle.vx_book.specs.StandsFor.{AreDistinct, AreOrderly, MayApply, OpeningStandsFor, SeriesStandsFor, Shows, StandsFor, TableStandsFor, TablesStandFor, counted, strike_kept}
+use Rattle.vx_book.specs.StandsFor.{AreDistinct, AreOrderly, MayApply, OpeningStandsFor, SeriesStandsFor, Shows, BookStandsFor, TableStandsFor, TablesStandFor, counted, strike_kept}
 use Rattle.vx_book.proofs.Places.{get_before, get_unwritten, get_written}
 use Rattle.vx_feed.proofs.SameAfter.{rate_same}
 use Rattle.vx_book.proofs.Quiet.{rows_same}
@@ -55,7 +55,7 @@ with_terms_of new old = record old { tables = new.tables; series = new.series }
 pub stands_rest : (old new : Book) (events : List Event) (e : Event) → header_day e ≡ None → declared_expiry e ≡ None → is_opening e ≡ false
     → TablesStandFor old.expiries.items new.tables.items (events ++ e ∷ [])
     → ((s : Symbol) → SeriesStandsFor old.expiries.items new.tables.items (events ++ e ∷ []) s (kept new.series s))
-    → AreOrderly (events ++ e ∷ []) → StandsFor old events → StandsFor (counted (with_terms_of new old)) (events ++ e ∷ [])
+    → AreOrderly (events ++ e ∷ []) → BookStandsFor old events → BookStandsFor (counted (with_terms_of new old)) (events ++ e ∷ [])
 stands_rest old new events e header declared opening tables series orderly h = record {
   lines = ap (λ n. n + 1) h.lines ∙ sym (length_push events e);
   day = h.day ∙ sym (day_same events e header);
@@ -85,7 +85,7 @@ abbrev pub with_day : Option DayNo → Book → Book
 with_day day book = record book { day = day }
 
 pub stands_quiet : (old : Book) (events : List Event) (e : Event) (day : Option DayNo) → IsQuiet e → day ≡ trade_date (events ++ e ∷ [])
-    → StandsFor old events → StandsFor (counted (with_day day old)) (events ++ e ∷ [])
+    → BookStandsFor old events → BookStandsFor (counted (with_day day old)) (events ++ e ∷ [])
 stands_quiet old events e day quiet day_is h = record {
   lines = ap (λ n. n + 1) h.lines ∙ sym (length_push events e);
   day = day_is;
@@ -99,21 +99,21 @@ stands_quiet old events e day quiet day_is h = record {
   orderly = orderly_next events e (few_still events e quiet.strikes h.orderly) (λ x none. quiet.rates x) h.orderly;
 }
 
-pub stands_header : (old : Book) (day : DayNo) → MayApply old (event.Header day) → (events : List Event) → StandsFor old events
-    → StandsFor (counted (with_day (Some day) old)) (events ++ event.Header day ∷ [])
+pub stands_header : (old : Book) (day : DayNo) → MayApply old (event.Header day) → (events : List Event) → BookStandsFor old events
+    → BookStandsFor (counted (with_day (Some day) old)) (events ++ event.Header day ∷ [])
 stands_header old day may events h =
     let none : trade_date events ≡ None = sym h.day ∙ (may.1).day ∙ header_first may.0 day (no_causes may.0 (event.Header day) (may.2).in_order).placed in
     stands_quiet old events (event.Header day) (Some day)
     (record { declared = refl; opening = refl; listing = refl; lists = λ s. refl; strikes = λ x. refl; quotes = λ s. refl; trades = λ s. refl; rates = λ x. refl })
     (sym (next_trade_date events (event.Header day) ∙ ap (λ o. option_or o (Some day)) none)) h
 
-pub stands_tick : (old : Book) (time : ℕ) (events : List Event) → StandsFor old events → StandsFor (counted old) (events ++ event.Tick time ∷ [])
+pub stands_tick : (old : Book) (time : ℕ) (events : List Event) → BookStandsFor old events → BookStandsFor (counted old) (events ++ event.Tick time ∷ [])
 stands_tick old time events h =
     stands_quiet old events (event.Tick time) old.day
     (record { declared = refl; opening = refl; listing = refl; lists = λ s. refl; strikes = λ x. refl; quotes = λ s. refl; trades = λ s. refl; rates = λ x. refl })
     (h.day ∙ sym (day_same events (event.Tick time) refl)) h
 
-pub stands_end : (old : Book) (count : ℕ) (events : List Event) → StandsFor old events → StandsFor (counted old) (events ++ event.End count ∷ [])
+pub stands_end : (old : Book) (count : ℕ) (events : List Event) → BookStandsFor old events → BookStandsFor (counted old) (events ++ event.End count ∷ [])
 stands_end old count events h =
     stands_quiet old events (event.End count) old.day
     (record { declared = refl; opening = refl; listing = refl; lists = λ s. refl; strikes = λ x. refl; quotes = λ s. refl; trades = λ s. refl; rates = λ x. refl })
@@ -125,7 +125,7 @@ not_there : (x : Expiry) (xs : List Expiry) → list_any (is_same_expiry x) xs �
 not_there x xs none i at = let both : true ≡ false = sym (any_passes_from_place (is_same_expiry x) xs i x at (expiry_itself x)) ∙ none in cc both
 
 -- no series of an expiry that is not declared is listed
-none_listed : (book : Book) (events : List Event) (x : Expiry) → StandsFor book events → list_any (is_same_expiry x) book.expiries.items ≡ false
+none_listed : (book : Book) (events : List Event) (x : Expiry) → BookStandsFor book events → list_any (is_same_expiry x) book.expiries.items ≡ false
     → (side : Side) (k : ℕ) → is_listed (series_at x side k) events ≡ false
 none_listed book events x h none side k = by (kept book.series s) (h.series s)
   where
@@ -153,8 +153,8 @@ pub record Declares (old : Book) (x : Expiry) (new : Book) : Type 0 where
 abbrev pub with_expiries_of : Book → Book → Book
 with_expiries_of new old = record old { expiries = new.expiries; tables = new.tables }
 
-pub stands_declared : (old new : Book) (x : Expiry) → MayApply old (event.Expiry x) → Declares old x new → (events : List Event) → StandsFor old events
-    → StandsFor (counted (with_expiries_of new old)) (events ++ event.Expiry x ∷ [])
+pub stands_declared : (old new : Book) (x : Expiry) → MayApply old (event.Expiry x) → Declares old x new → (events : List Event) → BookStandsFor old events
+    → BookStandsFor (counted (with_expiries_of new old)) (events ++ event.Expiry x ∷ [])
 stands_declared old new x may adds events h =
     let e = event.Expiry x in
     let xs = old.expiries.items in
@@ -215,7 +215,7 @@ with_rate rate table = record table { rate = Some rate }
 pub stands_rated : (old new : Book) (i : ℕ) (x : Expiry) (rate : ℤ) (table : Table) → MayApply old (event.Rate x rate) → slice_get old.expiries.items i ≡ Some x
     → slice_get old.tables.items i ≡ Some table → new.tables.items ≡ set old.tables.items i (with_rate rate table)
     → ((s : Symbol) → kept new.series s ≡ kept old.series s)
-    → (events : List Event) → StandsFor old events → StandsFor (counted (with_terms_of new old)) (events ++ event.Rate x rate ∷ [])
+    → (events : List Event) → BookStandsFor old events → BookStandsFor (counted (with_terms_of new old)) (events ++ event.Rate x rate ∷ [])
 stands_rated old new i x rate table may at there tables series events h =
     let e = event.Rate x rate in
     let xs = old.expiries.items in

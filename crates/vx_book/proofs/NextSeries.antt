@@ -19,7 +19,7 @@ use Rattle.vx_feed.specs.declared.events.Event.TheVariants as event
 use Rattle.vx_feed.specs.Ranges.{IsPrice}
 use Rattle.vx_feed.specs.Same.{is_same_expiry, is_same_series}
 use Rattle.vx_feed.specs.Standing.{is_opening, lists_series, opening_trade, standing_rate}
-use Rattle.vx_feed.specs.Listed.{expiry_of, is_declared, is_listed, is_strike_listed, listed_rows, no_price, other_side, quoted_price, series_at, standing_price}
+use Rattle.vx_feed.specs.Listed.{expiry_of, is_declared, is_listed, is_strike_listed, listed_rows, no_price, other_side, quoted_price, series_at, standing_price, price_of}
 use Rattle.vx_feed.proofs.NextEvent.{next_listed, unlisted_has_none}
 use Rattle.vx_feed.proofs.NoCauses.{no_causes}
 use Rattle.vx_feed.proofs.SameLemmas.{expiry_from_same}
@@ -30,10 +30,10 @@ use Rattle.vx_book.specs.declared.series.Series.{Series}
 use Rattle.vx_book.specs.declared.table.Table.{Table}
 use Rattle.vx_feed.specs.NextRows.{insert_row, row_when_listed, row_without}
 use Rattle.vx_book.specs.Series.{SetsSeries, kept, kept_trade}
-use Rattle.vx_book.specs.Tables.{AddsRow, ArePlaces, IsSameTable, SetsPrice, price_of, rows_with, strike_at, strike_of_row}
+use Rattle.vx_book.specs.Tables.{AddsRow, ArePlaces, IsSameTable, SetsPrice, rows_with, strike_placed, strike_of_row}
 use Rattle.vx_feed.specs.Opening.{opening_rate, opening_rows}
 use Rattle.vx_book.specs.Opening.{TakesOpening, kept_opening_rate, kept_opening_rows}
-use Rattle.vx_book.specs.StandsFor.{AreOrderly, KeptStandsFor, MayApply, PlaceStandsFor, SeriesStandsFor, Shows, StandsFor, TableStandsFor, TablesStandFor, counted, strike_kept}
+use Rattle.vx_book.specs.StandsFor.{AreOrderly, KeptStandsFor, MayApply, PlaceStandsFor, SeriesStandsFor, Shows, BookStandsFor, TableStandsFor, TablesStandFor, counted, strike_kept}
 use Rattle.vx_feed.proofs.NextRows.{apart_series, next_rows_listed, sides_without}
 use Rattle.vx_book.proofs.Places.{get_unwritten, get_written, position_says}
 use Rattle.vx_book.proofs.Rows.{has_row, strike_from_row}
@@ -50,16 +50,16 @@ use Rattle.vx_book.proofs.NextBook.{day_same, expiries_same, leaves_term, stands
 -- ---- what the book says of a series
 
 -- a series is listed where something is kept of it, for each list of events for which the book stands
-pub listed_alike : (book : Book) (a b : List Event) → StandsFor book a → StandsFor book b → (s : Symbol) → is_listed s a ≡ is_listed s b
+pub listed_alike : (book : Book) (a b : List Event) → BookStandsFor book a → BookStandsFor book b → (s : Symbol) → is_listed s a ≡ is_listed s b
 listed_alike book a b h g s =
     listed_by book.expiries.items book.tables.items a s (kept book.series s) (h.series s)
     ∙ sym (listed_by book.expiries.items book.tables.items b s (kept book.series s) (g.series s))
 
 -- a series that may be listed next is not listed
-pub unlisted_yet : (book : Book) (s : Symbol) → MayApply book (event.Series s) → (events : List Event) → StandsFor book events → is_listed s events ≡ false
+pub unlisted_yet : (book : Book) (s : Symbol) → MayApply book (event.Series s) → (events : List Event) → BookStandsFor book events → is_listed s events ≡ false
 unlisted_yet book s may events h = listed_alike book events may.0 h may.1 s ∙ (no_causes may.0 (event.Series s) (may.2).in_order).new_series
 
-orderly_listed : (book : Book) (s : Symbol) → MayApply book (event.Series s) → (events : List Event) → StandsFor book events → AreOrderly (events ++ event.Series s ∷ [])
+orderly_listed : (book : Book) (s : Symbol) → MayApply book (event.Series s) → (events : List Event) → BookStandsFor book events → AreOrderly (events ++ event.Series s ∷ [])
 orderly_listed book s may events h =
     orderly_next events (event.Series s) (λ x. few_with_series x events may.0 s (listed_alike book events may.0 h may.1) may.2 (h.orderly.few x)) (λ x none. refl) h.orderly
 
@@ -91,7 +91,7 @@ alone_at i = record { expiry = i; place = Alone no_price; traded = None }
 
 pub stands_alone : (old new : Book) (s : Symbol) (i : ℕ) → MayApply old (event.Series s) → slice_get old.expiries.items i ≡ Some (expiry_of s)
     → kept old.series (other_side s) ≡ None → new.tables.items ≡ old.tables.items → SetsSeries s (alone_at i) old.series new.series
-    → (events : List Event) → StandsFor old events → StandsFor (counted (with_terms_of new old)) (events ++ event.Series s ∷ [])
+    → (events : List Event) → BookStandsFor old events → BookStandsFor (counted (with_terms_of new old)) (events ++ event.Series s ∷ [])
 stands_alone old new s i may at none same_tables sets events h =
     let e = event.Series s in
     let xs = old.expiries.items in
@@ -118,7 +118,7 @@ stands_alone old new s i may at none same_tables sets events h =
     (λ apart. left_alone old s t events none h (apart_turned s t apart) (kept old.series t) refl)))
     (orderly_listed old s may events h) h
   where
-    left_alone : (book : Book) (a b : Symbol) (before : List Event) → kept book.series (other_side a) ≡ None → StandsFor book before → is_same_series b a ≡ false
+    left_alone : (book : Book) (a b : Symbol) (before : List Event) → kept book.series (other_side a) ≡ None → BookStandsFor book before → is_same_series b a ≡ false
         → (o : Option Series) → kept book.series b ≡ o → SeriesStandsFor book.expiries.items book.tables.items (before ++ event.Series a ∷ []) b o
     left_alone book a b before nothing stands apart None is =
         listed_same b before (event.Series a) apart ∙ unlisted_kept book.expiries.items book.tables.items before b (kept book.series b) is (stands.series b)
@@ -151,7 +151,7 @@ pub stands_completed : (old new : Book) (s : Symbol) (one : Series) (price : Pri
     → AddsRow (row_without s.side s.strike price) table next n → new.tables.items ≡ set old.tables.items one.expiry next
     → ((t : Symbol) → kept new.series t
     ≡ cond (is_same_series (other_side s) t) (Some (in_row one.expiry n one.traded)) (cond (is_same_series s t) (Some (in_row one.expiry n None)) (kept old.series t)))
-    → (events : List Event) → StandsFor old events → StandsFor (counted (with_terms_of new old)) (events ++ event.Series s ∷ [])
+    → (events : List Event) → BookStandsFor old events → BookStandsFor (counted (with_terms_of new old)) (events ++ event.Series s ∷ [])
 stands_completed old new s one price table next n may kept_is place_is there adds tables_are sets events h =
     let e = event.Series s in
     let x = expiry_of s in
@@ -233,7 +233,7 @@ table_same x events old new same h =
 
 strikes_same_table : (old new : Table) → IsSameTable old new → (n k : ℕ) → strike_of_row old n ≡ Some k → strike_of_row new n ≡ Some k
 strikes_same_table old new same n k h =
-    ap (λ rows. strike_at rows new.places.items n) same.rows ∙ ap (λ places. strike_at old.rows.items places n) same.places ∙ h
+    ap (λ rows. strike_placed rows new.places.items n) same.rows ∙ ap (λ places. strike_placed old.rows.items places n) same.places ∙ h
 
 tables_same : (xs : List Expiry) (tables : List Table) (events : List Event) (i : ℕ) (old new : Table) → slice_get tables i ≡ Some old → IsSameTable old new
     → TablesStandFor xs tables events → TablesStandFor xs (set tables i new) events
@@ -268,7 +268,7 @@ series_same xs tables tables_next events s (Some one) keeps h = record {
 
 pub stands_refused : (old new : Book) (i : ℕ) (table next : Table) → slice_get old.tables.items i ≡ Some table → IsSameTable table next
     → new.tables.items ≡ set old.tables.items i next → ((t : Symbol) → kept new.series t ≡ kept old.series t)
-    → (events : List Event) → StandsFor old events → StandsFor (with_terms_of new old) events
+    → (events : List Event) → BookStandsFor old events → BookStandsFor (with_terms_of new old) events
 stands_refused old new i table next there same tables_are series_are events h =
     let xs = old.expiries.items in
     let ts = old.tables.items in
@@ -317,8 +317,8 @@ orderly_quoted : (events : List Event) (time : ℕ) (s : Symbol) (bid ask : ℕ)
 orderly_quoted events time s bid ask h = orderly_next events (event.Quote time s bid ask) (few_still events (event.Quote time s bid ask) (λ x. refl) h) (λ x none. refl) h
 
 -- of a series that is not listed
-pub stands_unquoted : (old : Book) (s : Symbol) (time bid ask : ℕ) → kept old.series s ≡ None → (events : List Event) → StandsFor old events
-    → StandsFor (counted old) (events ++ event.Quote time s bid ask ∷ [])
+pub stands_unquoted : (old : Book) (s : Symbol) (time bid ask : ℕ) → kept old.series s ≡ None → (events : List Event) → BookStandsFor old events
+    → BookStandsFor (counted old) (events ++ event.Quote time s bid ask ∷ [])
 stands_unquoted old s time bid ask none events h =
     let e = event.Quote time s bid ask in
     let xs = old.expiries.items in
@@ -339,7 +339,7 @@ with_place place one = record one { place = place }
 -- of a series that keeps its price by itself
 pub stands_quoted_alone : (old new : Book) (s : Symbol) (one : Series) (before price : Price) (time bid ask : ℕ) → kept old.series s ≡ Some one → one.place ≡ Alone before
     → IsLawfulPrice price → price ≡ price_of bid ask → new.tables.items ≡ old.tables.items → SetsSeries s (with_place (Alone price) one) old.series new.series
-    → (events : List Event) → StandsFor old events → StandsFor (counted (with_terms_of new old)) (events ++ event.Quote time s bid ask ∷ [])
+    → (events : List Event) → BookStandsFor old events → BookStandsFor (counted (with_terms_of new old)) (events ++ event.Quote time s bid ask ∷ [])
 stands_quoted_alone old new s one before price time bid ask kept_is place_is lawful price_is same_tables sets events h =
     let e = event.Quote time s bid ask in
     let xs = old.expiries.items in
@@ -371,7 +371,7 @@ strikes_repriced : (k : ℕ) (side : Side) (price : Price) (old new : Table) →
     → (n j : ℕ) → strike_of_row old n ≡ Some j → strike_of_row new n ≡ Some j
 strikes_repriced k side price old new places rows n j h =
     let has = has_row old.rows.items old.places.items n j h in
-    ap (λ l. strike_at l new.places.items n) rows ∙ ap (λ l. strike_at (rows_with k side price old.rows.items) l n) places
+    ap (λ l. strike_placed l new.places.items n) rows ∙ ap (λ l. strike_placed (rows_with k side price old.rows.items) l n) places
     ∙ strike_from_row (rows_with k side price old.rows.items) old.places.items n j (record {
       place = has.place;
       row = row_if k side price has.row;
@@ -384,7 +384,7 @@ strikes_repriced k side price old new places rows n j h =
 pub stands_quoted_row : (old new : Book) (s : Symbol) (one : Series) (n : ℕ) (price : Price) (table next : Table) (time bid ask : ℕ) → kept old.series s ≡ Some one → one.place ≡ Row n
     → IsLawfulPrice price → price ≡ price_of bid ask → slice_get old.tables.items one.expiry ≡ Some table → SetsPrice n s.side price table next
     → new.tables.items ≡ set old.tables.items one.expiry next → ((t : Symbol) → kept new.series t ≡ kept old.series t)
-    → (events : List Event) → StandsFor old events → StandsFor (counted (with_terms_of new old)) (events ++ event.Quote time s bid ask ∷ [])
+    → (events : List Event) → BookStandsFor old events → BookStandsFor (counted (with_terms_of new old)) (events ++ event.Quote time s bid ask ∷ [])
 stands_quoted_row old new s one n price table next time bid ask kept_is place_is lawful price_is there sets tables_are series_are events h =
     let e = event.Quote time s bid ask in
     let x = expiry_of s in
@@ -429,8 +429,8 @@ orderly_traded : (events : List Event) (time : ℕ) (s : Symbol) (price : ℕ) �
 orderly_traded events time s price h = orderly_next events (event.Trade time s price) (few_still events (event.Trade time s price) (λ x. refl) h) (λ x none. refl) h
 
 -- one that counts for no series
-stands_untraded : (old : Book) (s : Symbol) (time price : ℕ) (events : List Event) → ((t : Symbol) → LeavesSeries t events (event.Trade time s price)) → StandsFor old events
-    → StandsFor (counted old) (events ++ event.Trade time s price ∷ [])
+stands_untraded : (old : Book) (s : Symbol) (time price : ℕ) (events : List Event) → ((t : Symbol) → LeavesSeries t events (event.Trade time s price)) → BookStandsFor old events
+    → BookStandsFor (counted old) (events ++ event.Trade time s price ∷ [])
 stands_untraded old s time price events leaves h =
     let e = event.Trade time s price in
     let xs = old.expiries.items in
@@ -441,15 +441,15 @@ stands_untraded old s time price events leaves h =
     (orderly_traded events time s price h.orderly) h
 
 -- after the opening
-pub stands_traded_late : (old : Book) (s : Symbol) (time price : ℕ) → is_some old.opened ≡ true → (events : List Event) → StandsFor old events
-    → StandsFor (counted old) (events ++ event.Trade time s price ∷ [])
+pub stands_traded_late : (old : Book) (s : Symbol) (time price : ℕ) → is_some old.opened ≡ true → (events : List Event) → BookStandsFor old events
+    → BookStandsFor (counted old) (events ++ event.Trade time s price ∷ [])
 stands_traded_late old s time price opened events h =
     let taken : list_any is_opening events ≡ true = sym (ap is_some h.opened ∙ opened_is events) ∙ opened in
     stands_untraded old s time price events (λ t. late_trade_leaves t s events time price taken) h
 
 -- of a series that is not listed
-pub stands_traded_none : (old : Book) (s : Symbol) (time price : ℕ) → kept old.series s ≡ None → (events : List Event) → StandsFor old events
-    → StandsFor (counted old) (events ++ event.Trade time s price ∷ [])
+pub stands_traded_none : (old : Book) (s : Symbol) (time price : ℕ) → kept old.series s ≡ None → (events : List Event) → BookStandsFor old events
+    → BookStandsFor (counted old) (events ++ event.Trade time s price ∷ [])
 stands_traded_none old s time price none events h =
     let e = event.Trade time s price in
     let unlisted = unlisted_kept old.expiries.items old.tables.items events s (kept old.series s) none (h.series s) in
@@ -469,7 +469,7 @@ first_in_range (Some first) price h p = h
 -- of a listed series before the opening
 pub stands_traded : (old new : Book) (s : Symbol) (one : Series) (time price : ℕ) → is_some old.opened ≡ false → kept old.series s ≡ Some one → IsPrice price
     → new.tables.items ≡ old.tables.items → SetsSeries s (with_trade price one) old.series new.series
-    → (events : List Event) → StandsFor old events → StandsFor (counted (with_terms_of new old)) (events ++ event.Trade time s price ∷ [])
+    → (events : List Event) → BookStandsFor old events → BookStandsFor (counted (with_terms_of new old)) (events ++ event.Trade time s price ∷ [])
 stands_traded old new s one time price unopened kept_is in_range same_tables sets events h =
     let e = event.Trade time s price in
     let xs = old.expiries.items in
@@ -508,7 +508,7 @@ range_by_kept : (xs : List Expiry) (ts : List Table) (events : List Event) (s : 
 range_by_kept xs ts events s None h = tt
 range_by_kept xs ts events s (Some one) h = h.trade_in_range
 
-pub trades_in_range : (book : Book) (events : List Event) → StandsFor book events → (s : Symbol) → IfSome (kept_trade book.series s) IsPrice
+pub trades_in_range : (book : Book) (events : List Event) → BookStandsFor book events → (s : Symbol) → IfSome (kept_trade book.series s) IsPrice
 trades_in_range book events h s = range_by_kept book.expiries.items book.tables.items events s (kept book.series s) (h.series s)
 
 abbrev pub with_opening_of : Book → Book → Book
@@ -517,7 +517,7 @@ with_opening_of new old = record old { opened = new.opened; opening = new.openin
 pub stands_opened : (old new : Book) (time : ℕ) → MayApply old (event.Opening time)
     → new.opened ≡ Some (record { line = old.lines + 1; time = time; expiries = length old.expiries.items })
     → TakesOpening old.expiries.items old.tables.items (kept_trade old.series) new.opening.items
-    → (events : List Event) → StandsFor old events → StandsFor (counted (with_opening_of new old)) (events ++ event.Opening time ∷ [])
+    → (events : List Event) → BookStandsFor old events → BookStandsFor (counted (with_opening_of new old)) (events ++ event.Opening time ∷ [])
 stands_opened old new time may opened takes events h =
     let e = event.Opening time in
     let xs = old.expiries.items in
@@ -541,15 +541,15 @@ stands_opened old new time may opened takes events h =
 -- ---- what a series leads to
 
 -- the expiry of a series of which something is kept
-pub kept_expiry : (book : Book) (events : List Event) (s : Symbol) (one : Series) → StandsFor book events → kept book.series s ≡ Some one
+pub kept_expiry : (book : Book) (events : List Event) (s : Symbol) (one : Series) → BookStandsFor book events → kept book.series s ≡ Some one
     → slice_get book.expiries.items one.expiry ≡ Some (expiry_of s)
 kept_expiry book events s one h is = (listed_kept book.expiries.items book.tables.items events s (kept book.series s) one is (h.series s)).expiry
 
-pub place_within : (book : Book) (events : List Event) (i : ℕ) (x : Expiry) → StandsFor book events → slice_get book.expiries.items i ≡ Some x → i < length book.tables.items
+pub place_within : (book : Book) (events : List Event) (i : ℕ) (x : Expiry) → BookStandsFor book events → slice_get book.expiries.items i ≡ Some x → i < length book.tables.items
 place_within book events i x h at = (let many = (h.tables).as_many in let less = slice_get_within book.expiries.items i x at in omega arith)
 
 -- the strike of the row of a series, in the table of its expiry
-pub kept_strike : (book : Book) (events : List Event) (s : Symbol) (one : Series) (n : ℕ) (table : Table) → StandsFor book events → kept book.series s ≡ Some one → one.place ≡ Row n
+pub kept_strike : (book : Book) (events : List Event) (s : Symbol) (one : Series) (n : ℕ) (table : Table) → BookStandsFor book events → kept book.series s ≡ Some one → one.place ≡ Row n
     → slice_get book.tables.items one.expiry ≡ Some table → strike_of_row table n ≡ Some s.strike
 kept_strike book events s one n table h is place_is there =
     let was = listed_kept book.expiries.items book.tables.items events s (kept book.series s) one is (h.series s) in
@@ -579,6 +579,6 @@ series_declared book s may =
     ap (list_any (is_same_expiry (expiry_of s))) (may.1).expiries ∙ not-false (is_declared (expiry_of s) may.0) (no_causes may.0 (event.Series s) (may.2).in_order).declared
 
 -- what the opening shows of an expiry, once it was taken
-pub opening_shown : (book : Book) (events : List Event) (i : ℕ) (x : Expiry) → StandsFor book events → is_some book.opened ≡ true → slice_get book.expiries.items i ≡ Some x
+pub opening_shown : (book : Book) (events : List Event) (i : ℕ) (x : Expiry) → BookStandsFor book events → is_some book.opened ≡ true → slice_get book.expiries.items i ≡ Some x
     → Shows (opening_rate x events) (opening_rows x events) (kept_opening_rate book.opening.items i) (kept_opening_rows book.opening.items i)
 opening_shown book events i x h opened at = (h.opening).each (sym (ap is_some h.opened ∙ opened_is events) ∙ opened) i x at

@@ -12,9 +12,9 @@ use Rattle.vx_feed.specs.declared.events.Event.{Event}
 use Rattle.vx_feed.specs.declared.events.Event.TheVariants as event
 use Rattle.vx_feed.specs.Same.{is_same_expiry, is_same_side}
 use Rattle.vx_feed.specs.Standing.{BidAsk, if_standing, quote_of}
-use Rattle.vx_feed.specs.Listed.{expiry_of, is_strike_listed, listed_rows, quoted_price, row_of, series_at, standing_price, strikes_of}
+use Rattle.vx_feed.specs.Listed.{expiry_of, is_strike_listed, listed_rows, quoted_price, row_of, series_at, standing_price, strikes_of, price_of}
 use Rattle.vx_feed.specs.NextRows.{is_listing, price_after, row_after}
-use Rattle.vx_book.specs.Tables.{price_of, row_with, rows_with}
+use Rattle.vx_book.specs.Tables.{row_with, rows_with}
 use Rattle.vx_feed.proofs.NextRows.{next_rows}
 use Rattle.vx_feed.proofs.RisingStrikes.{dropped, kept}
 use Rattle.vx_feed.proofs.SameAfter.{map_same}

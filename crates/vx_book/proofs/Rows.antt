@@ -15,7 +15,7 @@ use Rattle.vx_symbol.specs.declared.rows.StrikeRow.{StrikeRow}
 use Rattle.vx_symbol.specs.Rows.{StrikesRise}
 use Rattle.vx_feed.specs.NextRows.{insert_row}
 use Rattle.vx_book.specs.declared.table.Table.{Table}
-use Rattle.vx_book.specs.Tables.{AddsRow, ArePlaces, IsPlaceFor, moved_up, row_with, rows_with, strike_at}
+use Rattle.vx_book.specs.Tables.{AddsRow, ArePlaces, IsPlaceFor, moved_up, row_with, rows_with, strike_placed}
 use Rattle.vx_book.proofs.Places.{get_before, get_inserted, get_insert, get_pushed, moved_up-le}
 
 -- ---- the place of a strike
@@ -108,13 +108,13 @@ strike_of_some : (o : Option StrikeRow) (k : ℕ) → option_map (λ (row : Stri
 strike_of_some None k h = absurd (cc h)
 strike_of_some (Some row) k h = (row, refl, cc h)
 
-pub has_row : (rows : List StrikeRow) (places : List ℕ) (n k : ℕ) → strike_at rows places n ≡ Some k → HasRow rows places n k
+pub has_row : (rows : List StrikeRow) (places : List ℕ) (n k : ℕ) → strike_placed rows places n ≡ Some k → HasRow rows places n k
 has_row rows places n k h =
     option_and_then_some (strike_in rows) (slice_get places n) k h (λ place at is.
     let found = strike_of_some (slice_get rows place) k is in
     record { place = place; row = found.0; at_number = at; at_place = found.1; strike = found.2 })
 
-pub strike_from_row : (rows : List StrikeRow) (places : List ℕ) (n k : ℕ) → HasRow rows places n k → strike_at rows places n ≡ Some k
+pub strike_from_row : (rows : List StrikeRow) (places : List ℕ) (n k : ℕ) → HasRow rows places n k → strike_placed rows places n ≡ Some k
 strike_from_row rows places n k h =
     ap (option_and_then (strike_in rows)) h.at_number ∙ ap (option_map (λ (row : StrikeRow). row.strike)) h.at_place ∙ ap Some h.strike
 
@@ -122,7 +122,7 @@ abbrev pub with_place : ℕ → List ℕ → List ℕ
 with_place at places = map (moved_up at) places ++ at ∷ []
 
 pub strike_added : (rows : List StrikeRow) (places : List ℕ) (at : ℕ) (row : StrikeRow) → at ≤ length rows
-    → strike_at (insert rows at row) (with_place at places) (length places) ≡ Some row.strike
+    → strike_placed (insert rows at row) (with_place at places) (length places) ≡ Some row.strike
 strike_added rows places at row le = strike_from_row (insert rows at row) (with_place at places) (length places) row.strike (record {
   place = at;
   row = row;
@@ -132,7 +132,7 @@ strike_added rows places at row le = strike_from_row (insert rows at row) (with_
 })
 
 pub strike_kept : (rows : List StrikeRow) (places : List ℕ) (at : ℕ) (row : StrikeRow) (n k : ℕ) → at ≤ length rows
-    → strike_at rows places n ≡ Some k → strike_at (insert rows at row) (with_place at places) n ≡ Some k
+    → strike_placed rows places n ≡ Some k → strike_placed (insert rows at row) (with_place at places) n ≡ Some k
 strike_kept rows places at row n k le h =
     let has = has_row rows places n k h in
     strike_from_row (insert rows at row) (with_place at places) n k (record {
@@ -153,7 +153,7 @@ places_added rows places at row le placed =
     (omega arith)
 
 pub rows_set : (rows : List StrikeRow) (places : List ℕ) (n k : ℕ) (side : Side) (price : Price) (place : ℕ) (row new : StrikeRow) → StrikesRise rows
-    → strike_at rows places n ≡ Some k → place ≡ get_or places n place → row ≡ get_or rows place row → new ≡ row_with side price row
+    → strike_placed rows places n ≡ Some k → place ≡ get_or places n place → row ≡ get_or rows place row → new ≡ row_with side price row
     → set rows place new ≡ rows_with k side price rows
 rows_set rows places n k side price place row new rising at place_is row_is new_is =
     let has = has_row rows places n k at in
@@ -172,7 +172,7 @@ adds_row row old new at number place placed rate rows places is =
       rate = rate;
       rows = rows ∙ place.1 row refl;
       placed = (let P : List StrikeRow → Type 0 = λ l. ArePlaces l new.places.items in subst P (sym rows) (subst (ArePlaces (insert from at row)) (sym places) (places_added from numbers at row place.0 placed)));
-      its_strike = ap (λ l. strike_at l new.places.items number) rows ∙ ap (λ l. strike_at (insert from at row) l number) places ∙ ap (strike_at (insert from at row) (with_place at numbers)) is
+      its_strike = ap (λ l. strike_placed l new.places.items number) rows ∙ ap (λ l. strike_placed (insert from at row) l number) places ∙ ap (strike_placed (insert from at row) (with_place at numbers)) is
           ∙ strike_added from numbers at row place.0;
-      others = λ n k h. ap (λ l. strike_at l new.places.items n) rows ∙ ap (λ l. strike_at (insert from at row) l n) places ∙ strike_kept from numbers at row n k place.0 h;
+      others = λ n k h. ap (λ l. strike_placed l new.places.items n) rows ∙ ap (λ l. strike_placed (insert from at row) l n) places ∙ strike_kept from numbers at row n k place.0 h;
     }

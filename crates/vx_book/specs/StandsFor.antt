@@ -12,7 +12,7 @@ use Rattle.vx_feed.specs.declared.events.Event.{Event}
 use Rattle.vx_feed.specs.declared.events.Event.TheVariants as event
 use Rattle.vx_feed.specs.Ranges.{IsPrice}
 use Rattle.vx_feed.specs.Standing.{is_opening, opening_trade, standing_rate}
-use Rattle.vx_feed.specs.Listed.{declared_expiries, expiry_of, is_declared, is_listed, listed_rows, other_side, standing_price, strikes_of, trade_date}
+use Rattle.vx_feed.specs.Listed.{declared_expiries, expiry_of, is_declared, is_listed, listed_rows, other_side, standing_price, strikes_of, trade_date, price_of}
 use Rattle.vx_feed.specs.Opening.{opening_rate, opening_rows}
 use Rattle.vx_feed.specs.Order.{IsLawfulNext}
 use Rattle.vx_book.specs.declared.book.Book.{Book}
@@ -22,7 +22,7 @@ use Rattle.vx_book.specs.declared.series.Place.TheVariants.{Alone, Row}
 use Rattle.vx_book.specs.declared.series.Series.{Series}
 use Rattle.vx_book.specs.declared.table.Table.{Table}
 use Rattle.vx_book.specs.Series.{kept, kept_trade}
-use Rattle.vx_book.specs.Tables.{ArePlaces, price_of, strike_of_row}
+use Rattle.vx_book.specs.Tables.{ArePlaces, strike_of_row}
 use Rattle.vx_book.specs.Opening.{TakesOpening, kept_opening_rate, kept_opening_rows, opened_at}
 
 -- the rate and the rows that are kept are those that are due, and a lawful term
@@ -80,7 +80,7 @@ pub record AreOrderly (events : List Event) : Type 0 where
   pub undeclared : (x : Expiry) → is_declared x events ≡ false → standing_rate x events ≡ None
 
 -- each part that the book keeps is what the list of events says
-pub record StandsFor (book : Book) (events : List Event) : Type 0 where
+pub record BookStandsFor (book : Book) (events : List Event) : Type 0 where
   pub lines : book.lines ≡ length events
   pub day : book.day ≡ trade_date events
   pub opened : book.opened ≡ opened_at events
@@ -92,20 +92,20 @@ pub record StandsFor (book : Book) (events : List Event) : Type 0 where
   pub orderly : AreOrderly events
 
 -- there is a list of events for which the book stands
-abbrev pub StandsForSome : Book → Type 0
-StandsForSome book = (events : List Event) × StandsFor book events
+abbrev pub BookStandsForSome : Book → Type 0
+BookStandsForSome book = (events : List Event) × BookStandsFor book events
 
 -- the event is lawful next after a list of events for which the book stands
 abbrev pub MayApply : Book → Event → Type 0
-MayApply book e = (events : List Event) × StandsFor book events × IsLawfulNext events e
+MayApply book e = (events : List Event) × BookStandsFor book events × IsLawfulNext events e
 
 -- the new book stands for the events with this one at their end
 abbrev pub Applies : Book → Event → Book → Type 0
-Applies old e new = (events : List Event) → StandsFor old events → StandsFor new (events ++ e ∷ [])
+Applies old e new = (events : List Event) → BookStandsFor old events → BookStandsFor new (events ++ e ∷ [])
 
 -- the new book stands for the same events
 abbrev pub StandsStill : Book → Book → Type 0
-StandsStill old new = (events : List Event) → StandsFor old events → StandsFor new events
+StandsStill old new = (events : List Event) → BookStandsFor old events → BookStandsFor new events
 
 -- the book with one line more
 abbrev pub counted : Book → Book

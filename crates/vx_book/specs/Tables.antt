@@ -5,14 +5,8 @@ use Rattle.vx_symbol.specs.declared.symbols.Side.{Side}
 use Rattle.vx_symbol.specs.declared.symbols.Side.TheVariants.{Call, Put}
 use Rattle.vx_symbol.specs.declared.rows.Price.{Price}
 use Rattle.vx_symbol.specs.declared.rows.StrikeRow.{StrikeRow}
-use Rattle.vx_feed.specs.Standing.{if_standing}
-use Rattle.vx_feed.specs.Listed.{quoted_price}
 use Rattle.vx_feed.specs.NextRows.{insert_row}
 use Rattle.vx_book.specs.declared.table.Table.{Table}
-
--- the price of a quote
-abbrev pub price_of : ℕ → ℕ → Price
-price_of bid ask = quoted_price (if_standing (record { bid = bid; ask = ask }))
 
 -- a row with this price on one side
 abbrev pub row_with : Side → Price → StrikeRow → StrikeRow
@@ -36,11 +30,11 @@ abbrev pub ArePlaces : List StrikeRow → List ℕ → Type 0
 ArePlaces rows places = All (λ place. place < length rows) places
 
 -- the strike of the row of a number, which stands at the place of that number
-abbrev pub strike_at : List StrikeRow → List ℕ → ℕ → Option ℕ
-strike_at rows places n = option_and_then (λ place. option_map (λ (row : StrikeRow). row.strike) (slice_get rows place)) (slice_get places n)
+abbrev pub strike_placed : List StrikeRow → List ℕ → ℕ → Option ℕ
+strike_placed rows places n = option_and_then (λ place. option_map (λ (row : StrikeRow). row.strike) (slice_get rows place)) (slice_get places n)
 
 abbrev pub strike_of_row : Table → ℕ → Option ℕ
-strike_of_row table n = strike_at table.rows.items table.places.items n
+strike_of_row table n = strike_placed table.rows.items table.places.items n
 
 -- a row more under this number; every other row keeps its number
 pub record AddsRow (row : StrikeRow) (old new : Table) (number : ℕ) : Type 0 where

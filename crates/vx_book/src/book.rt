@@ -9,7 +9,7 @@ ghost use Rattle.vx_feed.specs.Same.{is_same_expiry};
 ghost use Rattle.vx_feed.specs.Listed.{declared_expiries, other_side, trade_date};
 ghost use Rattle.vx_book.specs.Opening.{opened_at};
 ghost use Rattle.vx_book.specs.Series.{kept};
-ghost use Rattle.vx_book.specs.StandsFor.{Applies, IsStandingTerm, IsTermAtOpening, MayApply, StandsFor, StandsForSome, StandsNext, StandsStill, TakesOpeningOf, TakesQuote, TakesTrade};
+ghost use Rattle.vx_book.specs.StandsFor.{Applies, IsStandingTerm, IsTermAtOpening, MayApply, BookStandsFor, BookStandsForSome, StandsNext, StandsStill, TakesOpeningOf, TakesQuote, TakesTrade};
 
 use crate::opening::{Opened, OpeningTerm};
 use crate::series::{Place, Series};
@@ -46,7 +46,7 @@ pub struct Book {
 impl Book {
     /// The book of no event.
     pub fn new(alloc: Global) -> Result<Book, NoMemory>
-        ensures { IfOk result (λ book. StandsFor book []) }
+        ensures { IfOk result (λ book. BookStandsFor book []) }
     {
         Ok(Book {
             lines: 0,
@@ -181,7 +181,7 @@ impl Book {
 
     // Sets the price of a series; one that is not listed has none.
     fn quote(&mut self, symbol: &Symbol, price: Price) -> Result<(), NoMemory>
-        requires stands { StandsForSome self.old }
+        requires stands { BookStandsForSome self.old }
         requires lawful { IsLawfulPrice price }
         ensures taken { OnOk result (TakesQuote self.old symbol.now price self.new) }
         ensures refused { OnErr result (StandsStill self.old self.new) }
@@ -234,7 +234,7 @@ impl Book {
     }
 
     fn opening_terms(&self) -> Result<Vec<OpeningTerm>, NoMemory>
-        requires { StandsForSome self.now }
+        requires { BookStandsForSome self.now }
         ensures { IfOk result (λ terms. TakesOpeningOf self.now terms.items) }
     {
         let mut terms = Vec::with_capacity(self.alloc, self.tables.len())?;
@@ -253,7 +253,7 @@ impl Book {
     /// How many events were applied, and so the number of the last one's line.
     pub fn lines(&self) -> u64
         ensures kept { result ≡ self.now.lines }
-        ensures value { (events : List Event) → StandsFor self.now events → result ≡ length events }
+        ensures value { (events : List Event) → BookStandsFor self.now events → result ≡ length events }
     {
         self.lines
     }
@@ -261,7 +261,7 @@ impl Book {
     /// The trade date, once there was a header.
     pub fn day(&self) -> Option<DayNo>
         ensures kept { result ≡ self.now.day }
-        ensures value { (events : List Event) → StandsFor self.now events → result ≡ trade_date events }
+        ensures value { (events : List Event) → BookStandsFor self.now events → result ≡ trade_date events }
     {
         self.day
     }
@@ -269,7 +269,7 @@ impl Book {
     /// The declared expiries, in order of declaration.
     pub fn expiries(&self) -> &[Expiry]
         ensures kept { result.now ≡ self.now.expiries.items }
-        ensures value { (events : List Event) → StandsFor self.now events → result.now ≡ declared_expiries events }
+        ensures value { (events : List Event) → BookStandsFor self.now events → result.now ≡ declared_expiries events }
     {
         self.expiries.as_slice()
     }
@@ -277,10 +277,10 @@ impl Book {
     /// What stands for the expiry at this place in order of declaration, from 0: its rate, and its
     /// listed rows with the prices of their standing quotes.
     pub fn term(&self, i: usize) -> TermView
-        requires stands { StandsForSome self.now }
+        requires stands { BookStandsForSome self.now }
         requires within { i < length self.now.expiries.items }
         ensures expiry { slice_get self.now.expiries.items i ≡ Some result.expiry }
-        ensures standing { (events : List Event) → StandsFor self.now events → IsStandingTerm events result }
+        ensures standing { (events : List Event) → BookStandsFor self.now events → IsStandingTerm events result }
         ensures lawful { IsLawfulTerm result }
     {
         TermView {
@@ -293,7 +293,7 @@ impl Book {
     /// Where and when the opening was taken, once it was.
     pub fn opening_at(&self) -> Option<Opened>
         ensures kept { result ≡ self.now.opened }
-        ensures value { (events : List Event) → StandsFor self.now events → result ≡ opened_at events }
+        ensures value { (events : List Event) → BookStandsFor self.now events → result ≡ opened_at events }
     {
         self.opened
     }
@@ -302,11 +302,11 @@ impl Book {
     /// their opening prices, an opening trade before a quote. There is nothing for an expiry that was
     /// declared later.
     pub fn opening_term(&self, i: usize) -> TermView
-        requires stands { StandsForSome self.now }
+        requires stands { BookStandsForSome self.now }
         requires opened { IsSome self.now.opened }
         requires within { i < length self.now.expiries.items }
         ensures expiry { slice_get self.now.expiries.items i ≡ Some result.expiry }
-        ensures at_opening { (events : List Event) → StandsFor self.now events → IsTermAtOpening events result }
+        ensures at_opening { (events : List Event) → BookStandsFor self.now events → IsTermAtOpening events result }
         ensures lawful { IsLawfulTerm result }
     {
         let expiry = self.expiries[i];

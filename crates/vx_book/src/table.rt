@@ -6,7 +6,8 @@ ghost use Rattle.vx_symbol.specs.Rows.{IsLawfulPrice, StrikesRise};
 ghost use Rattle.vx_feed.specs.Ranges.{IsPrice};
 ghost use Rattle.vx_feed.specs.NextRows.{row_without};
 ghost use Rattle.vx_book.specs.Tables as spec;
-ghost use Rattle.vx_book.specs.Tables.{AddsRow, ArePlaces, IsPlaceFor, IsSameTable, SetsPrice, price_of, row_with, strike_of_row};
+ghost use Rattle.vx_book.specs.Tables.{AddsRow, ArePlaces, IsPlaceFor, IsSameTable, SetsPrice, row_with, strike_of_row};
+ghost use Rattle.vx_feed.specs.Listed.{price_of};
 
 use std::alloc::Global;
 use vx_num::NoMemory;

@@ -2,7 +2,7 @@
 ghost use Rattle.std.specs.Prelude.{List, IfOk, OnOk};
 ghost use Rattle.vx_feed.specs.declared.events.Event.{Event};
 ghost use Rattle.vx_feed.specs.Noted as noted;
-ghost use Rattle.vx_book.specs.StandsFor.{StandsFor, StandsForSome};
+ghost use Rattle.vx_book.specs.StandsFor.{BookStandsFor, BookStandsForSome};
 
 use crate::{Book, Opened};
 use std::alloc::Global;
@@ -49,8 +49,8 @@ const DAY: [&str; 20] = [
 
 // Takes up a line in both.
 fn take_line(alloc: Global, line: &str, seen: &mut Order, book: &mut Book) -> Result<(), Fail>
-    requires { (events : List Event) × noted.StandsFor seen.old events × StandsFor book.old events }
-    ensures { OnOk result ((events : List Event) × noted.StandsFor seen.new events × StandsFor book.new events) }
+    requires { (events : List Event) × noted.StandsFor seen.old events × BookStandsFor book.old events }
+    ensures { OnOk result ((events : List Event) × noted.StandsFor seen.new events × BookStandsFor book.new events) }
 {
     let event = read_event(alloc, line.as_bytes(), seen)?;
     seen.note(&event)?;
@@ -60,7 +60,7 @@ fn take_line(alloc: Global, line: &str, seen: &mut Order, book: &mut Book) -> Re
 
 // The book after the first lines of the day.
 fn book_after(alloc: Global, count: usize) -> Result<Book, Fail>
-    ensures { IfOk result StandsForSome }
+    ensures { IfOk result BookStandsForSome }
 {
     let mut seen = Order::new(alloc)?;
     let mut book = Book::new(alloc)?;
@@ -71,7 +71,7 @@ fn book_after(alloc: Global, count: usize) -> Result<Book, Fail>
 }
 
 fn term(book: &Book, place: usize) -> Option<TermView<'_>>
-    requires { StandsForSome book.now }
+    requires { BookStandsForSome book.now }
 {
     if place < book.expiries().len() {
         return Some(book.term(place));
@@ -80,7 +80,7 @@ fn term(book: &Book, place: usize) -> Option<TermView<'_>>
 }
 
 fn opening_term(book: &Book, place: usize) -> Option<TermView<'_>>
-    requires { StandsForSome book.now }
+    requires { BookStandsForSome book.now }
 {
     if book.opening_at().is_some() && place < book.expiries().len() {
         return Some(book.opening_term(place));

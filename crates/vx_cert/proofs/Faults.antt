@@ -10,8 +10,8 @@ use Rattle.vx_cert.specs.declared.form.Kind.TheVariants as kind
 use Rattle.std.specs.Option.{ok_or}
 use Rattle.vx_clock.specs.declared.limits.TheConstants.{MINUTES_MIN, MINUTES_MAX, RATE_MIN, RATE_MAX}
 use Rattle.vx_cert.specs.declared.limits.TheConstants.{VERSION_MIN, VERSION_MAX, LINE_MAX, DAYS_MAX, CENTS_MAX}
-use Rattle.vx_cert.specs.Form.{at, has_only, whole_of, signed_of, word_of, taylor_of, ends_of, index_ends_of, rows_of, object_of, root_of, date_of, time_of, pair_of, kind_of}
-use Rattle.vx_cert.specs.Reading.{with, field, with_only, level_names, term_names, one_term_names, index_names, level_body, term_fields, term_at, figure_from, one_term, index_body, body_of, certificate_of, IsValueOf, ReadsAs}
+use Rattle.vx_cert.specs.Form.{at, has_only, whole_in, signed_in, word_in, taylor_in, ends_in, index_ends_in, rows_in, object_in, root_in, date_in, time_in, pair_in, kind_in}
+use Rattle.vx_cert.specs.Reading.{with, field_in, with_only, level_names, term_names, one_term_names, index_names, level_body, term_fields, term_at, figure_from, one_term, index_body, body_of, certificate_of, IsValueOf, ReadsAs}
 
 -- it is something, or a field is at fault
 abbrev pub IsOrNamesField : {A : Type 0} → Result A CertFault → Type 0
@@ -29,8 +29,8 @@ onward (Err (Field n)) next first rest = tt
 onward (Err Syntax) next first rest = first
 onward (Err NoMemory) next first rest = first
 
-step : {A B : Type 0} (n : ℕ) (key : List ℕ) (reading : Data → Option A) (d : Data) (next : A → Result B CertFault) → ((x : A) → IsOrNamesField (next x)) → IsOrNamesField (with (field n key reading d) next)
-step n key reading d next rest = onward (field n key reading d) next (missing n (at key reading d)) rest
+step : {A B : Type 0} (n : ℕ) (key : List ℕ) (reading : Data → Option A) (d : Data) (next : A → Result B CertFault) → ((x : A) → IsOrNamesField (next x)) → IsOrNamesField (with (field_in n key reading d) next)
+step n key reading d next rest = onward (field_in n key reading d) next (missing n (at key reading d)) rest
 
 decided : {A : Type 0} (allowed : Bool) (n : ℕ) (x : A) → IsOrNamesField (if allowed then Ok x else Err (Field n))
 decided true n x = tt
@@ -41,37 +41,37 @@ only names n d x = decided (has_only names d) n x
 
 level : (d : Data) → IsOrNamesField (level_body d)
 level d =
-    step (5) (codes "root") root_of d _ (λ r.
-    step (6) (codes "date") date_of d _ (λ day.
-    step (7) (codes "pair") pair_of d _ (λ pair.
-    step (8) (codes "k0") word_of d _ (λ k0.
+    step (5) (codes "root") root_in d _ (λ r.
+    step (6) (codes "date") date_in d _ (λ day.
+    step (7) (codes "pair") pair_in d _ (λ pair.
+    step (8) (codes "k0") word_in d _ (λ k0.
     only level_names 0 d _))))
 
 term_inside : (n : ℕ) (d : Data) → IsOrNamesField (term_fields n d)
 term_inside n d =
-    step (100 * n + 1) (codes "root") root_of d _ (λ r.
-    step (100 * n + 2) (codes "date") date_of d _ (λ day.
-    step (100 * n + 3) (codes "minutes") (whole_of MINUTES_MIN MINUTES_MAX) d _ (λ minutes.
-    step (100 * n + 4) (codes "rate") (signed_of RATE_MIN RATE_MAX) d _ (λ rate.
-    step (100 * n + 5) (codes "exp") taylor_of d _ (λ terms.
-    step (100 * n + 6) (codes "e") ends_of d _ (λ e.
-    step (100 * n + 7) (codes "pair") pair_of d _ (λ pair.
-    step (100 * n + 8) (codes "f") ends_of d _ (λ f.
-    step (100 * n + 9) (codes "k0") word_of d _ (λ k0.
-    step (100 * n + 10) (codes "g") ends_of d _ (λ g.
-    step (100 * n + 11) (codes "rows") rows_of d _ (λ rows.
-    step (100 * n + 12) (codes "s") ends_of d _ (λ s.
-    step (100 * n + 13) (codes "w") ends_of d _ (λ w.
+    step (100 * n + 1) (codes "root") root_in d _ (λ r.
+    step (100 * n + 2) (codes "date") date_in d _ (λ day.
+    step (100 * n + 3) (codes "minutes") (whole_in MINUTES_MIN MINUTES_MAX) d _ (λ minutes.
+    step (100 * n + 4) (codes "rate") (signed_in RATE_MIN RATE_MAX) d _ (λ rate.
+    step (100 * n + 5) (codes "exp") taylor_in d _ (λ terms.
+    step (100 * n + 6) (codes "e") ends_in d _ (λ e.
+    step (100 * n + 7) (codes "pair") pair_in d _ (λ pair.
+    step (100 * n + 8) (codes "f") ends_in d _ (λ f.
+    step (100 * n + 9) (codes "k0") word_in d _ (λ k0.
+    step (100 * n + 10) (codes "g") ends_in d _ (λ g.
+    step (100 * n + 11) (codes "rows") rows_in d _ (λ rows.
+    step (100 * n + 12) (codes "s") ends_in d _ (λ s.
+    step (100 * n + 13) (codes "w") ends_in d _ (λ w.
     only term_names (100 * n) d _)))))))))))))
 
 term : (n : ℕ) (key : List ℕ) (d : Data) → IsOrNamesField (term_at n key d)
-term n key d = step n key object_of d (term_fields n) (term_inside n)
+term n key d = step n key object_in d (term_fields n) (term_inside n)
 
 figure : (n : ℕ) (d : Data) → IsOrNamesField (figure_from n d)
 figure n d =
-    step (n) (codes "x") ends_of d _ (λ x.
-    step (n + 1) (codes "ends") index_ends_of d _ (λ ends.
-    step (n + 2) (codes "cents") (whole_of 0 CENTS_MAX) d _ (λ cents.
+    step (n) (codes "x") ends_in d _ (λ x.
+    step (n + 1) (codes "ends") index_ends_in d _ (λ ends.
+    step (n + 2) (codes "cents") (whole_in 0 CENTS_MAX) d _ (λ cents.
     tt)))
 
 single : (d : Data) → IsOrNamesField (one_term d)
@@ -81,7 +81,7 @@ single d =
 
 index : (d : Data) → IsOrNamesField (index_body d)
 index d =
-    step 5 (codes "days") (whole_of 0 DAYS_MAX) d _ (λ days.
+    step 5 (codes "days") (whole_in 0 DAYS_MAX) d _ (λ days.
     onward (term_at 6 (codes "near") d) _ (term 6 (codes "near") d) (λ near.
     onward (term_at 7 (codes "next") d) _ (term 7 (codes "next") d) (λ next.
     onward (figure_from 8 d) _ (figure 8 d) (λ f. only index_names 0 d _))))
@@ -95,10 +95,10 @@ body kind.Soq d = onward (one_term d) _ (single d) (λ x. tt)
 -- a value is read as a certificate, or a field of it is at fault
 pub is_or_names_field : (d : Data) → IsOrNamesField (certificate_of d)
 is_or_names_field d =
-    step (1) (codes "v") (whole_of VERSION_MIN VERSION_MAX) d _ (λ v.
-    step (2) (codes "kind") kind_of d _ (λ k.
-    step (3) (codes "line") (whole_of 1 LINE_MAX) d _ (λ line.
-    step (4) (codes "time") time_of d _ (λ time.
+    step (1) (codes "v") (whole_in VERSION_MIN VERSION_MAX) d _ (λ v.
+    step (2) (codes "kind") kind_in d _ (λ k.
+    step (3) (codes "line") (whole_in 1 LINE_MAX) d _ (λ line.
+    step (4) (codes "time") time_in d _ (λ time.
     onward (body_of k d) _ (body k d) (λ b. tt)))))
 
 -- what is read of a line's value is what the line is read as

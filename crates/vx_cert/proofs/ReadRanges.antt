@@ -32,10 +32,10 @@ use Rattle.vx_cert.specs.declared.fault.CertFault.TheVariants.{NoMemory, Field}
 use Rattle.vx_cert.specs.declared.form.Kind.{Kind}
 use Rattle.vx_cert.specs.declared.form.Kind.TheVariants as kind
 use Rattle.vx_cert.specs.declared.limits.TheConstants.{VERSION_MIN, VERSION_MAX, LINE_MAX, DAYS_MAX, CENTS_MAX, ROWS_MAX, TAYLOR_TERMS, END_BITS, INDEX_END_BITS}
-use Rattle.vx_cert.specs.Form.{at, both, has_only, list_of, whole_of, signed_of, word_of, part_in_range, part_of, pair_named, taylor_named, taylor_pair, taylor_of, wide_of, index_end_of}
-use Rattle.vx_cert.specs.Form.{ends_named, ends_of, index_ends_named, index_ends_of, all_read, row_named, row_of, rows_named, rows_of, object_of, root_of, date_of, time_of, pair_of, kind_of}
+use Rattle.vx_cert.specs.Form.{at, both, has_only, list_in, whole_in, signed_in, word_in, part_in_range, part_in, pair_named, taylor_named, taylor_pair, taylor_in, wide_in, index_end_in}
+use Rattle.vx_cert.specs.Form.{ends_named, ends_in, index_ends_named, index_ends_in, all_read, row_named, row_in, rows_named, rows_in, object_in, root_in, date_in, time_in, pair_in, kind_in}
 use Rattle.vx_cert.specs.Ranges.{IsBelowPower, AreEndsInRange, IsTermInRange, IsFigureInRange, IsBodyInRange, IsCertificateInRange}
-use Rattle.vx_cert.specs.Reading.{with, field, with_only, level_names, term_names, one_term_names, index_names, level_body, term_fields, term_at, figure_from, one_term, index_body, body_of, certificate_of}
+use Rattle.vx_cert.specs.Reading.{with, field_in, with_only, level_names, term_names, one_term_names, index_names, level_body, term_fields, term_at, figure_from, one_term, index_body, body_of, certificate_of}
 
 -- ---- what a result says of the steps that gave it
 
@@ -97,9 +97,9 @@ onward (Ok x) next first rest = rest x (first.holds x refl)
 onward (Err fault) next first rest = record { holds = λ y e. absurd cc }
 
 step : {A B : Type 0} {P : A → Type 0} {Q : B → Type 0} (n : ℕ) (key : List ℕ) (reading : Data → Option A) (d : Data) (next : A → Result B CertFault)
-    → Gives P reading → ((x : A) → P x → Has Q (next x)) → Has Q (with (field n key reading d) next)
+    → Gives P reading → ((x : A) → P x → Has Q (next x)) → Has Q (with (field_in n key reading d) next)
 step n key reading d next gives rest =
-    onward (field n key reading d) next
+    onward (field_in n key reading d) next
     (record { holds = λ x e. let v = found reading (get key d) x (some_of (at key reading d) n x e) in gives.holds v.0 x v.2 })
     rest
 
@@ -125,7 +125,7 @@ parts f (Some x) (Some y) z h = (x, y, refl, refl, cc)
 
 -- ---- numbers
 
-whole : (low high : ℕ) → Gives (λ n. (low ≤ n) × (n ≤ high)) (whole_of low high)
+whole : (low high : ℕ) → Gives (λ n. (low ≤ n) × (n ≤ high)) (whole_in low high)
 whole low high = record {
   holds = λ d x h.
       let n = found (λ n. cond (nat_le low n && nat_le n high) (Some n) None) (option_and_then as_u64 (as_number d)) x h in
@@ -141,7 +141,7 @@ int_at_most a b e = grind (arith, ints)
 int_below : (a b : ℤ) → int_lt a b ≡ true → a <ℤ b
 int_below a b e = grind (arith, ints)
 
-signed : (low high : ℤ) → Gives (λ z. (low ≤ℤ z) × (z ≤ℤ high)) (signed_of low high)
+signed : (low high : ℤ) → Gives (λ z. (low ≤ℤ z) × (z ≤ℤ high)) (signed_in low high)
 signed low high = record {
   holds = λ d x h.
       let z = found (λ z. cond (int_le low z && int_le z high) (Some z) None) (option_and_then as_i64 (as_number d)) x h in
@@ -173,22 +173,22 @@ text_below (b ∷ bs) bits z h =
     sign_below (is_minus b) (magnitude_of (cond (is_minus b) bs (b ∷ bs)) bits) bits z
     (magnitude_below (cond (is_minus b) bs (b ∷ bs)) bits) h
 
-word : Gives (λ n. n ≤ 2 ^ 32 - 1) word_of
+word : Gives (λ n. n ≤ 2 ^ 32 - 1) word_in
 word = record { holds = λ d x h. ((whole 0 (2 ^ 32 - 1)).holds d x h).1 }
 
-wide : Gives (IsBelowPower END_BITS) wide_of
+wide : Gives (IsBelowPower END_BITS) wide_in
 wide = record {
   holds = λ d x h.
       let text = found (λ text. result_ok (number_of_text text END_BITS)) (as_str d) x h in
       text_below text.0 END_BITS x (ok_of (number_of_text text.0 END_BITS) x text.2);
 }
 
-index_end : Gives (IsBelowPower INDEX_END_BITS) index_end_of
+index_end : Gives (IsBelowPower INDEX_END_BITS) index_end_in
 index_end = record {
   holds = λ d x h.
       let low = neg_ℤ (pos (2 ^ INDEX_END_BITS)) in
       let high = pos (2 ^ INDEX_END_BITS) in
-      let z = found (λ z. cond (int_lt low z && int_lt z high) (Some z) None) (wide_of d) x h in
+      let z = found (λ z. cond (int_lt low z && int_lt z high) (Some z) None) (wide_in d) x h in
       let t = some_test (int_lt low z.0 && int_lt z.0 high) (Some z.0) x z.2 in
       let both_hold = and_parts (int_lt low z.0) (int_lt z.0 high) t.0 in
       let same : z.0 ≡ x = cc in
@@ -203,8 +203,8 @@ part_inside (pos n) x h =
     subst (λ m. m < 2 ^ 64) same (ltb-true n (2 ^ 64) test)
 part_inside (negsuc n) x h = absurd cc
 
-part : Gives (λ n. n < 2 ^ 64) part_of
-part = record { holds = λ d x h. let z = found part_in_range (wide_of d) x h in part_inside z.0 x z.2 }
+part : Gives (λ n. n < 2 ^ 64) part_in
+part = record { holds = λ d x h. let z = found part_in_range (wide_in d) x h in part_inside z.0 x z.2 }
 
 -- ---- pairs, intervals and lists
 
@@ -214,24 +214,24 @@ pair_inside (strike ∷ []) x h = absurd cc
 pair_inside (strike ∷ d ∷ []) x h =
     let low = negsuc (2 ^ 31 - 1) in
     let high = pos (2 ^ 31 - 1) in
-    let p = parts (λ k z. record { strike = k; d = z }) (word_of strike) (signed_of low high d) x h in
+    let p = parts (λ k z. record { strike = k; d = z }) (word_in strike) (signed_in low high d) x h in
     let range = (signed low high).holds d p.1 p.3 in
     subst FitsPair p.4 (record { strike = word.holds strike p.0 p.2; d_low = range.0; d_high = range.1 })
 pair_inside (a ∷ b ∷ c ∷ rest) x h = absurd cc
 
-pair : Gives FitsPair pair_of
-pair = record { holds = λ d x h. let list = found pair_named (list_of d) x h in pair_inside list.0 x list.2 }
+pair : Gives FitsPair pair_in
+pair = record { holds = λ d x h. let list = found pair_named (list_in d) x h in pair_inside list.0 x list.2 }
 
 ends_inside : (ds : List Data) (x : Ends) → ends_named ds ≡ Some x → AreEndsInRange x
 ends_inside [] x h = absurd cc
 ends_inside (lo ∷ []) x h = absurd cc
 ends_inside (lo ∷ hi ∷ []) x h =
-    let p = parts (λ l h. record { lo = l; hi = h }) (wide_of lo) (wide_of hi) x h in
+    let p = parts (λ l h. record { lo = l; hi = h }) (wide_in lo) (wide_in hi) x h in
     subst AreEndsInRange p.4 (record { lo = wide.holds lo p.0 p.2; hi = wide.holds hi p.1 p.3 })
 ends_inside (a ∷ b ∷ c ∷ rest) x h = absurd cc
 
-ends : Gives AreEndsInRange ends_of
-ends = record { holds = λ d x h. let list = found ends_named (list_of d) x h in ends_inside list.0 x list.2 }
+ends : Gives AreEndsInRange ends_in
+ends = record { holds = λ d x h. let list = found ends_named (list_in d) x h in ends_inside list.0 x list.2 }
 
 abbrev AreIndexEnds : ℤ × ℤ → Type 0
 AreIndexEnds p = IsBelowPower INDEX_END_BITS p.0 × IsBelowPower INDEX_END_BITS p.1
@@ -240,12 +240,12 @@ index_ends_inside : (ds : List Data) (x : ℤ × ℤ) → index_ends_named ds �
 index_ends_inside [] x h = absurd cc
 index_ends_inside (lo ∷ []) x h = absurd cc
 index_ends_inside (lo ∷ hi ∷ []) x h =
-    let p = parts (λ l h. (l, h)) (index_end_of lo) (index_end_of hi) x h in
+    let p = parts (λ l h. (l, h)) (index_end_in lo) (index_end_in hi) x h in
     subst AreIndexEnds p.4 (index_end.holds lo p.0 p.2, index_end.holds hi p.1 p.3)
 index_ends_inside (a ∷ b ∷ c ∷ rest) x h = absurd cc
 
-index_ends : Gives AreIndexEnds index_ends_of
-index_ends = record { holds = λ d x h. let list = found index_ends_named (list_of d) x h in index_ends_inside list.0 x list.2 }
+index_ends : Gives AreIndexEnds index_ends_in
+index_ends = record { holds = λ d x h. let list = found index_ends_named (list_in d) x h in index_ends_inside list.0 x list.2 }
 
 -- each value that is read has the property of its reading, and as many are read as there are
 all_inside : {A : Type 0} {P : A → Type 0} (reading : Data → Option A) → Gives P reading → (ds : List Data) (xs : List A) → all_read reading ds ≡ Some xs → All P xs × (length xs ≡ length ds)
@@ -258,8 +258,8 @@ all_inside {A} {P} reading gives (d ∷ ds) xs h =
 
 terms_inside : (ds : List Data) (xs : List ℕ) → taylor_named ds ≡ Some xs → FitTerms xs
 terms_inside ds xs h =
-    let t = some_test (length ds == TAYLOR_TERMS) (all_read part_of ds) xs h in
-    let all = all_inside part_of part ds xs t.1 in
+    let t = some_test (length ds == TAYLOR_TERMS) (all_read part_in ds) xs h in
+    let all = all_inside part_in part ds xs t.1 in
     let test = t.0 in
     let many : length ds ≡ TAYLOR_TERMS = grind (arith, nat_tests) in
     record { many = all.1 ∙ many; each = all.0 }
@@ -271,14 +271,14 @@ taylor_inside : (ds : List Data) (x : List ℕ × List ℕ) → taylor_pair ds �
 taylor_inside [] x h = absurd cc
 taylor_inside (low ∷ []) x h = absurd cc
 taylor_inside (low ∷ high ∷ []) x h =
-    let p = parts (λ l h. (l, h)) (option_and_then taylor_named (list_of low)) (option_and_then taylor_named (list_of high)) x h in
-    let l = found taylor_named (list_of low) p.0 p.2 in
-    let r = found taylor_named (list_of high) p.1 p.3 in
+    let p = parts (λ l h. (l, h)) (option_and_then taylor_named (list_in low)) (option_and_then taylor_named (list_in high)) x h in
+    let l = found taylor_named (list_in low) p.0 p.2 in
+    let r = found taylor_named (list_in high) p.1 p.3 in
     subst AreTaylor p.4 (terms_inside l.0 p.0 l.2, terms_inside r.0 p.1 r.2)
 taylor_inside (a ∷ b ∷ c ∷ rest) x h = absurd cc
 
-taylor : Gives AreTaylor taylor_of
-taylor = record { holds = λ d x h. let list = found taylor_pair (list_of d) x h in taylor_inside list.0 x list.2 }
+taylor : Gives AreTaylor taylor_in
+taylor = record { holds = λ d x h. let list = found taylor_pair (list_in d) x h in taylor_inside list.0 x list.2 }
 
 row_fits : (k width price l h : ℕ) (x : CertRow) → record { strike = k; d = width; q4 = price; lo = l; hi = h } ≡ x → k ≤ 2 ^ 32 - 1 → width ≤ 2 ^ 32 - 1 → price ≤ 2 ^ 32 - 1 → l < 2 ^ 64 → h < 2 ^ 64 → FitsRow x
 row_fits k width price l h x is a b c d e = subst FitsRow is (record { strike = a; d = b; q4 = c; lo = d; hi = e })
@@ -290,42 +290,42 @@ row_inside (a ∷ b ∷ []) x h = absurd cc
 row_inside (a ∷ b ∷ c ∷ []) x h = absurd cc
 row_inside (a ∷ b ∷ c ∷ e ∷ []) x h = absurd cc
 row_inside (strike ∷ d ∷ q4 ∷ lo ∷ hi ∷ []) x h =
-    let k = found (λ k. option_and_then (λ width. option_and_then (λ price. both (λ l h. record { strike = k; d = width; q4 = price; lo = l; hi = h }) (part_of lo) (part_of hi)) (word_of q4)) (word_of d)) (word_of strike) x h in
-    let w = found (λ width. option_and_then (λ price. both (λ l h. record { strike = k.0; d = width; q4 = price; lo = l; hi = h }) (part_of lo) (part_of hi)) (word_of q4)) (word_of d) x k.2 in
-    let p = found (λ price. both (λ l h. record { strike = k.0; d = w.0; q4 = price; lo = l; hi = h }) (part_of lo) (part_of hi)) (word_of q4) x w.2 in
-    let e = parts (λ l h. record { strike = k.0; d = w.0; q4 = p.0; lo = l; hi = h }) (part_of lo) (part_of hi) x p.2 in
+    let k = found (λ k. option_and_then (λ width. option_and_then (λ price. both (λ l h. record { strike = k; d = width; q4 = price; lo = l; hi = h }) (part_in lo) (part_in hi)) (word_in q4)) (word_in d)) (word_in strike) x h in
+    let w = found (λ width. option_and_then (λ price. both (λ l h. record { strike = k.0; d = width; q4 = price; lo = l; hi = h }) (part_in lo) (part_in hi)) (word_in q4)) (word_in d) x k.2 in
+    let p = found (λ price. both (λ l h. record { strike = k.0; d = w.0; q4 = price; lo = l; hi = h }) (part_in lo) (part_in hi)) (word_in q4) x w.2 in
+    let e = parts (λ l h. record { strike = k.0; d = w.0; q4 = p.0; lo = l; hi = h }) (part_in lo) (part_in hi) x p.2 in
     row_fits k.0 w.0 p.0 e.0 e.1 x e.4 (word.holds strike k.0 k.1) (word.holds d w.0 w.1) (word.holds q4 p.0 p.1) (part.holds lo e.0 e.2) (part.holds hi e.1 e.3)
 row_inside (a ∷ b ∷ c ∷ e ∷ f ∷ g ∷ rest) x h = absurd cc
 
-row : Gives FitsRow row_of
-row = record { holds = λ d x h. let list = found row_named (list_of d) x h in row_inside list.0 x list.2 }
+row : Gives FitsRow row_in
+row = record { holds = λ d x h. let list = found row_named (list_in d) x h in row_inside list.0 x list.2 }
 
 abbrev AreRows : List CertRow → Type 0
 AreRows rows = (1 ≤ length rows) × (length rows ≤ ROWS_MAX) × All FitsRow rows
 
 rows_inside : (ds : List Data) (x : List CertRow) → rows_named ds ≡ Some x → AreRows x
 rows_inside ds x h =
-    let t = some_test (nat_le 1 (length ds) && nat_le (length ds) ROWS_MAX) (all_read row_of ds) x h in
+    let t = some_test (nat_le 1 (length ds) && nat_le (length ds) ROWS_MAX) (all_read row_in ds) x h in
     let both_hold = and_parts (nat_le 1 (length ds)) (nat_le (length ds) ROWS_MAX) t.0 in
     let some = leb-true 1 (length ds) both_hold.0 in
     let most = leb-true (length ds) ROWS_MAX both_hold.1 in
-    let all = all_inside row_of row ds x t.1 in
+    let all = all_inside row_in row ds x t.1 in
     let same = all.1 in
     (omega arith, omega arith, all.0)
 
-rows : Gives AreRows rows_of
-rows = record { holds = λ d x h. let list = found rows_named (list_of d) x h in rows_inside list.0 x list.2 }
+rows : Gives AreRows rows_in
+rows = record { holds = λ d x h. let list = found rows_named (list_in d) x h in rows_inside list.0 x list.2 }
 
 -- ---- days and times
 
-date : Gives IsDayInRange date_of
+date : Gives IsDayInRange date_in
 date = record {
   holds = λ v x h.
       let text = found (λ text. result_ok (day_of_text text)) (as_str v) x h in
       day_of_text_range text.0 x (ok_of (day_of_text text.0) x text.2);
 }
 
-time : Gives (λ minute. minute ≤ MINUTE_MAX) time_of
+time : Gives (λ minute. minute ≤ MINUTE_MAX) time_in
 time = record {
   holds = λ v x h.
       let text = found time_of_text (as_str v) x h in
@@ -339,10 +339,10 @@ IsBody body = IsBodyInRange body × FitsBody body
 
 level : (d : Data) → Has IsBody (level_body d)
 level d =
-    step 5 (codes "root") root_of d _ (anything root_of) (λ r _.
-    step 6 (codes "date") date_of d _ date (λ day day_in.
-    step 7 (codes "pair") pair_of d _ pair (λ closest pair_in.
-    step 8 (codes "k0") word_of d _ word (λ k0 k0_in.
+    step 5 (codes "root") root_in d _ (anything root_in) (λ r _.
+    step 6 (codes "date") date_in d _ date (λ day day_in.
+    step 7 (codes "pair") pair_in d _ pair (λ closest pair_in.
+    step 8 (codes "k0") word_in d _ word (λ k0 k0_in.
     only level_names 0 d _ (record { first = day_in.0; last = day_in.1 }, (pair_in, k0_in))))))
 
 abbrev IsTerm : CertTerm → Type 0
@@ -350,19 +350,19 @@ IsTerm term = IsTermInRange term × FitsTerm term
 
 term_inside : (n : ℕ) (d : Data) → Has IsTerm (term_fields n d)
 term_inside n d =
-    step (100 * n + 1) (codes "root") root_of d _ (anything root_of) (λ r _.
-    step (100 * n + 2) (codes "date") date_of d _ date (λ day day_in.
-    step (100 * n + 3) (codes "minutes") (whole_of MINUTES_MIN MINUTES_MAX) d _ (whole MINUTES_MIN MINUTES_MAX) (λ minutes minutes_in.
-    step (100 * n + 4) (codes "rate") (signed_of RATE_MIN RATE_MAX) d _ (signed RATE_MIN RATE_MAX) (λ rate rate_in.
-    step (100 * n + 5) (codes "exp") taylor_of d _ taylor (λ terms terms_in.
-    step (100 * n + 6) (codes "e") ends_of d _ ends (λ e e_in.
-    step (100 * n + 7) (codes "pair") pair_of d _ pair (λ closest pair_in.
-    step (100 * n + 8) (codes "f") ends_of d _ ends (λ f f_in.
-    step (100 * n + 9) (codes "k0") word_of d _ word (λ k0 k0_in.
-    step (100 * n + 10) (codes "g") ends_of d _ ends (λ g g_in.
-    step (100 * n + 11) (codes "rows") rows_of d _ rows (λ strip rows_in.
-    step (100 * n + 12) (codes "s") ends_of d _ ends (λ s s_in.
-    step (100 * n + 13) (codes "w") ends_of d _ ends (λ w w_in.
+    step (100 * n + 1) (codes "root") root_in d _ (anything root_in) (λ r _.
+    step (100 * n + 2) (codes "date") date_in d _ date (λ day day_in.
+    step (100 * n + 3) (codes "minutes") (whole_in MINUTES_MIN MINUTES_MAX) d _ (whole MINUTES_MIN MINUTES_MAX) (λ minutes minutes_in.
+    step (100 * n + 4) (codes "rate") (signed_in RATE_MIN RATE_MAX) d _ (signed RATE_MIN RATE_MAX) (λ rate rate_in.
+    step (100 * n + 5) (codes "exp") taylor_in d _ taylor (λ terms terms_in.
+    step (100 * n + 6) (codes "e") ends_in d _ ends (λ e e_in.
+    step (100 * n + 7) (codes "pair") pair_in d _ pair (λ closest pair_in.
+    step (100 * n + 8) (codes "f") ends_in d _ ends (λ f f_in.
+    step (100 * n + 9) (codes "k0") word_in d _ word (λ k0 k0_in.
+    step (100 * n + 10) (codes "g") ends_in d _ ends (λ g g_in.
+    step (100 * n + 11) (codes "rows") rows_in d _ rows (λ strip rows_in.
+    step (100 * n + 12) (codes "s") ends_in d _ ends (λ s s_in.
+    step (100 * n + 13) (codes "w") ends_in d _ ends (λ w w_in.
     only term_names (100 * n) d _ (
       record {
         date = record { first = day_in.0; last = day_in.1 };
@@ -382,13 +382,13 @@ term_inside n d =
     ))))))))))))))
 
 term : (n : ℕ) (key : List ℕ) (d : Data) → Has IsTerm (term_at n key d)
-term n key d = step n key object_of d (term_fields n) (anything object_of) (λ inner _. term_inside n inner)
+term n key d = step n key object_in d (term_fields n) (anything object_in) (λ inner _. term_inside n inner)
 
 figure : (n : ℕ) (d : Data) → Has IsFigureInRange (figure_from n d)
 figure n d =
-    step n (codes "x") ends_of d _ ends (λ x x_in.
-    step (n + 1) (codes "ends") index_ends_of d _ index_ends (λ index index_in.
-    step (n + 2) (codes "cents") (whole_of 0 CENTS_MAX) d _ (whole 0 CENTS_MAX) (λ cents cents_in.
+    step n (codes "x") ends_in d _ ends (λ x x_in.
+    step (n + 1) (codes "ends") index_ends_in d _ index_ends (λ index index_in.
+    step (n + 2) (codes "cents") (whole_in 0 CENTS_MAX) d _ (whole 0 CENTS_MAX) (λ cents cents_in.
     last _ (record { x = x_in; lo = index_in.0; hi = index_in.1; cents = cents_in.1 }))))
 
 abbrev IsOneTerm : CertTerm × CertFigure → Type 0
@@ -401,7 +401,7 @@ single d =
 
 index : (d : Data) → Has IsBody (index_body d)
 index d =
-    step 5 (codes "days") (whole_of 0 DAYS_MAX) d _ (whole 0 DAYS_MAX) (λ days days_in.
+    step 5 (codes "days") (whole_in 0 DAYS_MAX) d _ (whole 0 DAYS_MAX) (λ days days_in.
     onward (term_at 6 (codes "near") d) _ (term 6 (codes "near") d) (λ near near_in.
     onward (term_at 7 (codes "next") d) _ (term 7 (codes "next") d) (λ next next_in.
     onward (figure_from 8 d) _ (figure 8 d) (λ f f_in. only index_names 0 d _ ((days_in.1, near_in.0, next_in.0, f_in), (near_in.1, next_in.1))))))
@@ -417,10 +417,10 @@ IsWhole c = IsCertificateInRange c × FitsBody c.body
 
 whole_certificate : (d : Data) → Has IsWhole (certificate_of d)
 whole_certificate d =
-    step 1 (codes "v") (whole_of VERSION_MIN VERSION_MAX) d _ (whole VERSION_MIN VERSION_MAX) (λ v v_in.
-    step 2 (codes "kind") kind_of d _ (anything kind_of) (λ k _.
-    step 3 (codes "line") (whole_of 1 LINE_MAX) d _ (whole 1 LINE_MAX) (λ line line_in.
-    step 4 (codes "time") time_of d _ time (λ minute time_in.
+    step 1 (codes "v") (whole_in VERSION_MIN VERSION_MAX) d _ (whole VERSION_MIN VERSION_MAX) (λ v v_in.
+    step 2 (codes "kind") kind_in d _ (anything kind_in) (λ k _.
+    step 3 (codes "line") (whole_in 1 LINE_MAX) d _ (whole 1 LINE_MAX) (λ line line_in.
+    step 4 (codes "time") time_in d _ time (λ minute time_in.
     onward (body_of k d) _ (body k d) (λ b b_in.
     last _ (
       record {

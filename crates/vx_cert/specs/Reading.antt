@@ -15,7 +15,7 @@ use Rattle.vx_cert.specs.declared.fault.CertFault.TheVariants.{NoMemory, Syntax,
 use Rattle.vx_cert.specs.declared.limits.TheConstants.{VERSION_MIN, VERSION_MAX, LINE_MAX, DAYS_MAX, CENTS_MAX}
 use Rattle.vx_cert.specs.declared.form.Kind.{Kind}
 use Rattle.vx_cert.specs.declared.form.Kind.TheVariants as kind
-use Rattle.vx_cert.specs.Form.{at, whole_of, signed_of, word_of, taylor_of, ends_of, index_ends_of, rows_of, object_of, root_of, date_of, time_of, pair_of, kind_of, has_only}
+use Rattle.vx_cert.specs.Form.{at, whole_in, signed_in, word_in, taylor_in, ends_in, index_ends_in, rows_in, object_in, root_in, date_in, time_in, pair_in, kind_in, has_only}
 
 -- goes on with what was read, or keeps the fault
 abbrev pub with : {A B : Type 0} → Result A CertFault → (A → Result B CertFault) → Result B CertFault
@@ -23,8 +23,8 @@ with (Ok said) next = next said
 with (Err fault) next = Err fault
 
 -- what a field says, or its number where it says nothing of its form
-abbrev pub field : {A : Type 0} → ℕ → List ℕ → (Data → Option A) → Data → Result A CertFault
-field n key reading d = ok_or (at key reading d) (Field n)
+abbrev pub field_in : {A : Type 0} → ℕ → List ℕ → (Data → Option A) → Data → Result A CertFault
+field_in n key reading d = ok_or (at key reading d) (Field n)
 
 -- the names of the fields of kind `k0`
 abbrev pub level_names : List (List ℕ)
@@ -39,10 +39,10 @@ with_only names n d said = if has_only names d then Ok said else Err (Field n)
 -- the fields of kind `k0` from the fifth on
 abbrev pub level_body : Data → Result CertBody CertFault
 level_body d =
-    with (field 5 (codes "root") root_of d) (λ r.
-    with (field 6 (codes "date") date_of d) (λ day.
-    with (field 7 (codes "pair") pair_of d) (λ closest.
-    with (field 8 (codes "k0") word_of d) (λ level.
+    with (field_in 5 (codes "root") root_in d) (λ r.
+    with (field_in 6 (codes "date") date_in d) (λ day.
+    with (field_in 7 (codes "pair") pair_in d) (λ closest.
+    with (field_in 8 (codes "k0") word_in d) (λ level.
     with_only level_names 0 d (K0 (record { root = r; date = day }) closest level)))))
 
 -- the names of a term's fields
@@ -54,19 +54,19 @@ term_names =
 -- the fields of a term whose number is n
 abbrev pub term_fields : ℕ → Data → Result CertTerm CertFault
 term_fields n d =
-    with (field (100 * n + 1) (codes "root") root_of d) (λ r.
-    with (field (100 * n + 2) (codes "date") date_of d) (λ day.
-    with (field (100 * n + 3) (codes "minutes") (whole_of MINUTES_MIN MINUTES_MAX) d) (λ minutes_left.
-    with (field (100 * n + 4) (codes "rate") (signed_of RATE_MIN RATE_MAX) d) (λ yearly.
-    with (field (100 * n + 5) (codes "exp") taylor_of d) (λ terms.
-    with (field (100 * n + 6) (codes "e") ends_of d) (λ exponential.
-    with (field (100 * n + 7) (codes "pair") pair_of d) (λ closest.
-    with (field (100 * n + 8) (codes "f") ends_of d) (λ forward.
-    with (field (100 * n + 9) (codes "k0") word_of d) (λ level.
-    with (field (100 * n + 10) (codes "g") ends_of d) (λ above.
-    with (field (100 * n + 11) (codes "rows") rows_of d) (λ strip.
-    with (field (100 * n + 12) (codes "s") ends_of d) (λ total.
-    with (field (100 * n + 13) (codes "w") ends_of d) (λ variance.
+    with (field_in (100 * n + 1) (codes "root") root_in d) (λ r.
+    with (field_in (100 * n + 2) (codes "date") date_in d) (λ day.
+    with (field_in (100 * n + 3) (codes "minutes") (whole_in MINUTES_MIN MINUTES_MAX) d) (λ minutes_left.
+    with (field_in (100 * n + 4) (codes "rate") (signed_in RATE_MIN RATE_MAX) d) (λ yearly.
+    with (field_in (100 * n + 5) (codes "exp") taylor_in d) (λ terms.
+    with (field_in (100 * n + 6) (codes "e") ends_in d) (λ exponential.
+    with (field_in (100 * n + 7) (codes "pair") pair_in d) (λ closest.
+    with (field_in (100 * n + 8) (codes "f") ends_in d) (λ forward.
+    with (field_in (100 * n + 9) (codes "k0") word_in d) (λ level.
+    with (field_in (100 * n + 10) (codes "g") ends_in d) (λ above.
+    with (field_in (100 * n + 11) (codes "rows") rows_in d) (λ strip.
+    with (field_in (100 * n + 12) (codes "s") ends_in d) (λ total.
+    with (field_in (100 * n + 13) (codes "w") ends_in d) (λ variance.
     with_only term_names (100 * n) d (record {
       expiry = record { root = r; date = day };
       minutes = minutes_left;
@@ -85,14 +85,14 @@ term_fields n d =
 
 -- the term at a field: an object, and its fields
 abbrev pub term_at : ℕ → List ℕ → Data → Result CertTerm CertFault
-term_at n key d = with (field n key object_of d) (term_fields n)
+term_at n key d = with (field_in n key object_in d) (term_fields n)
 
 -- the figure at three fields from n on
 abbrev pub figure_from : ℕ → Data → Result CertFigure CertFault
 figure_from n d =
-    with (field n (codes "x") ends_of d) (λ square.
-    with (field (n + 1) (codes "ends") index_ends_of d) (λ index.
-    with (field (n + 2) (codes "cents") (whole_of 0 CENTS_MAX) d) (λ figure.
+    with (field_in n (codes "x") ends_in d) (λ square.
+    with (field_in (n + 1) (codes "ends") index_ends_in d) (λ index.
+    with (field_in (n + 2) (codes "cents") (whole_in 0 CENTS_MAX) d) (λ figure.
     Ok (record { x = square; lo = index.0; hi = index.1; cents = figure }))))
 
 -- the names of the fields of kinds `single` and `soq`
@@ -117,7 +117,7 @@ index_names =
 -- the fields of kind `index` from the fifth on
 abbrev pub index_body : Data → Result CertBody CertFault
 index_body d =
-    with (field 5 (codes "days") (whole_of 0 DAYS_MAX) d) (λ ahead.
+    with (field_in 5 (codes "days") (whole_in 0 DAYS_MAX) d) (λ ahead.
     with (term_at 6 (codes "near") d) (λ first.
     with (term_at 7 (codes "next") d) (λ second.
     with (figure_from 8 d) (λ figure.
@@ -133,10 +133,10 @@ body_of kind.Soq d = with (one_term d) (λ said. Ok (Soq said.0 said.1))
 -- the certificate that a value of JSON is, or the first field that is not of its form
 abbrev pub certificate_of : Data → Result Certificate CertFault
 certificate_of d =
-    with (field 1 (codes "v") (whole_of VERSION_MIN VERSION_MAX) d) (λ version.
-    with (field 2 (codes "kind") kind_of d) (λ named.
-    with (field 3 (codes "line") (whole_of 1 LINE_MAX) d) (λ number.
-    with (field 4 (codes "time") time_of d) (λ minute.
+    with (field_in 1 (codes "v") (whole_in VERSION_MIN VERSION_MAX) d) (λ version.
+    with (field_in 2 (codes "kind") kind_in d) (λ named.
+    with (field_in 3 (codes "line") (whole_in 1 LINE_MAX) d) (λ number.
+    with (field_in 4 (codes "time") time_in d) (λ minute.
     with (body_of named d) (λ said.
     Ok (record { v = version; line = number; time = minute; body = said }))))))
 

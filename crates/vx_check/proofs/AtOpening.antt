@@ -28,7 +28,7 @@ use Rattle.vx_check.specs.declared.book.PlainBook.{PlainBook}
 use Rattle.vx_check.specs.declared.opening.Opening.{Opening}
 use Rattle.vx_check.specs.declared.opening.OpeningTerm.{OpeningTerm}
 use Rattle.vx_check.specs.Opening.{IsOpeningOfEvents, facts_of_term}
-use Rattle.vx_check.specs.StandsFor.{StandsFor}
+use Rattle.vx_check.specs.StandsFor.{PlainStandsFor}
 use Rattle.vx_check.specs.Reached.{IsAtOpening}
 
 any_more : (xs ys : List Event) → list_any is_opening xs ≡ true → list_any is_opening (xs ++ ys) ≡ true
@@ -86,7 +86,7 @@ opening_of_line events line time lawful at =
 
 -- ---- what the book keeps of it
 
-module _ (book : PlainBook) (events : List Event) (stands : StandsFor book events) (lawful : AreLawful events) (line time : ℕ) where
+module _ (book : PlainBook) (events : List Event) (stands : PlainStandsFor book events) (lawful : AreLawful events) (line time : ℕ) where
   -- the book's opening is at the line where the events have it there
   pub place_at : (o : Opening) → book.opening ≡ Some o → (b : Bool) → (IsTrue b ↔ ((o.line ≡ line) × (o.time ≡ time)))
       → (IsTrue b ↔ IsOpeningAt events line time)

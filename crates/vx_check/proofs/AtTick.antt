@@ -22,7 +22,8 @@ use Rattle.vx_claims.specs.Accepts.{scale_of, TermMeetsAt}
 use Rattle.vx_claims.proofs.RisingRows.{listed_rows_rise}
 use Rattle.vx_check.specs.declared.book.PlainBook.{PlainBook}
 use Rattle.vx_check.specs.Kept.{is_kept, kept_rate, kept_rows}
-use Rattle.vx_check.specs.StandsFor.{last_event, tick_minute}
+use Rattle.vx_check.specs.StandsFor.{last_event}
+use Rattle.vx_feed.specs.Order.{tick_minute}
 use Rattle.vx_check.specs.Reached.{IsReached, IsAtTick}
 use Rattle.vx_check.proofs.Pushes.{last_event-push}
 use Rattle.std.proofs.lemmas.List.{append-nil}

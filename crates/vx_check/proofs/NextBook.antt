@@ -6,17 +6,17 @@ use Rattle.vx_feed.specs.Opening.{opening_time}
 use Rattle.vx_check.specs.declared.book.PlainBook.{PlainBook}
 use Rattle.vx_check.specs.declared.opening.Opening.{Opening}
 use Rattle.vx_check.specs.Opening.{IsOpeningOfEvents}
-use Rattle.vx_check.specs.StandsFor.{StandsFor, IsSameBook}
+use Rattle.vx_check.specs.StandsFor.{PlainStandsFor, IsSameBook}
 use Rattle.vx_check.proofs.NextTables.{AllSay, all_say_still}
 use Rattle.vx_check.proofs.NextTrades.{AllTraded, all_traded_still}
 
-pub tables_say : (book : PlainBook) (events : List Event) → StandsFor book events → AllSay book.tables.items events
+pub tables_say : (book : PlainBook) (events : List Event) → PlainStandsFor book events → AllSay book.tables.items events
 tables_say book events h x = record { rate_is = h.rate x; keeps = record { rows_are = h.rows x; halves_are = h.halves x } }
 
-pub tables_traded : (book : PlainBook) (events : List Event) → StandsFor book events → AllTraded book.tables.items events
+pub tables_traded : (book : PlainBook) (events : List Event) → PlainStandsFor book events → AllTraded book.tables.items events
 tables_traded book events h x = h.trades x
 
-pub same_book_stands : (old new : PlainBook) (events : List Event) → IsSameBook old new → StandsFor old events → StandsFor new events
+pub same_book_stands : (old new : PlainBook) (events : List Event) → IsSameBook old new → PlainStandsFor old events → PlainStandsFor new events
 same_book_stands old new events same h =
     let all = all_say_still old.tables.items new.tables.items events same.tables (tables_say old events h) in
     let traded = all_traded_still old.tables.items new.tables.items events same.tables (tables_traded old events h) in

@@ -34,7 +34,7 @@ use Rattle.vx_check.specs.Kept.{is_table_of}
 use Rattle.vx_check.specs.Trades.{price_at_opening, price_of_trade, row_at_opening, traded_at}
 use Rattle.vx_check.specs.Opening.{IsOpeningOfEvents, IsTermOfTable, OpensAt, ChangesOpening, facts_of_term, opening_table}
 use Rattle.vx_check.specs.Tables.{AreBoth, expiry_of_table}
-use Rattle.vx_check.specs.StandsFor.{AreFirstTrades, StandsFor}
+use Rattle.vx_check.specs.StandsFor.{AreFirstTrades, PlainStandsFor}
 use Rattle.vx_check.proofs.Pushes.{header_is_first, not_second, one_line_more, trade_date-push}
 use Rattle.vx_check.proofs.NextTables.{AllSay, Says, declared_if_there, none_declared}
 use Rattle.vx_check.proofs.NextTrades.{AllTraded, trades_in}
@@ -169,7 +169,7 @@ term_taken (Some day) events tables term unopened same say traded both =
 
 pub opening_of_events : (old : PlainBook) (events : List Event) (time : ℕ) (opening : Opening) → list_any is_opening events ≡ false
     → IsLawfulNext events (event.Opening time)
-    → StandsFor old events → AllSay old.tables.items events → OpensAt old time opening
+    → PlainStandsFor old events → AllSay old.tables.items events → OpensAt old time opening
     → IsOpeningOfEvents (events ++ event.Opening time ∷ []) opening
 opening_of_events old events time opening unopened lawful h say opens =
     let e = event.Opening time in
@@ -203,14 +203,14 @@ keeps_same old new events e quiet lawful same h =
     subst (λ (o : Option Opening). Keeps o (events ++ e ∷ [])) (sym same) (keeps_quiet old events e quiet lawful h)
 
 keeps_taken : (old : PlainBook) (new : Option Opening) (events : List Event) (time : ℕ) → IsLawfulNext events (event.Opening time)
-    → StandsFor old events → AllSay old.tables.items events → IsSomeAnd new (OpensAt old time)
+    → PlainStandsFor old events → AllSay old.tables.items events → IsSomeAnd new (OpensAt old time)
     → Keeps new (events ++ event.Opening time ∷ [])
 keeps_taken old None events time lawful h say opens = absurd opens
 keeps_taken old (Some opening) events time lawful h say opens =
     opening_of_events old events time opening (not_second events (event.Opening time) lawful) lawful h say opens
 
 pub opening_after : (old : PlainBook) (new : Option Opening) (events : List Event) (e : Event) → IsLawfulNext events e
-    → StandsFor old events → AllSay old.tables.items events → ChangesOpening old e new → Keeps new (events ++ e ∷ [])
+    → PlainStandsFor old events → AllSay old.tables.items events → ChangesOpening old e new → Keeps new (events ++ e ∷ [])
 opening_after old new events (event.Opening time) lawful h say takes = keeps_taken old new events time lawful h say takes
 opening_after old new events (event.Header day) lawful h say takes =
     keeps_same old.opening new events (event.Header day) refl lawful takes h.opening

@@ -13,15 +13,15 @@ use Rattle.vx_feed.specs.declared.events.Event.{Event}
 use Rattle.vx_feed.specs.declared.events.Event.TheVariants as event
 use Rattle.vx_feed.specs.Same.{is_same_side, is_same_series, is_same_expiry}
 use Rattle.vx_feed.specs.Standing.{BidAsk, if_standing, lists_series, quote_of, standing_quote}
-use Rattle.vx_feed.specs.Listed.{expiry_of, is_listed, listed_rows, no_price, quoted_price, series_at, standing_price}
+use Rattle.vx_feed.specs.Listed.{expiry_of, is_listed, listed_rows, no_price, quoted_price, series_at, standing_price, price_of}
 use Rattle.vx_feed.specs.Next.{quote_after}
 use Rattle.vx_feed.proofs.NextEvent.{next_listed, next_quote, unlisted_has_none}
 use Rattle.vx_feed.proofs.NextRows.{apart_series, other_strike, own_strike}
 use Rattle.vx_feed.proofs.SameAfter.{listed_same, price_same}
 use Rattle.vx_check.specs.declared.table.Half.{Half}
 use Rattle.vx_check.specs.Rising.{Rises, item_at, IsWith}
-use Rattle.vx_check.specs.Tables.{row_strike, half_strike, price_of, row_when_listed, half_when_listed, row_with_price, half_when_quoted, ListsSeries}
-use Rattle.vx_check.specs.Tables.{SetsPrice}
+use Rattle.vx_check.specs.Tables.{row_strike, half_strike, row_once_listed, half_when_listed, row_with_price, half_when_quoted, ListsSeries}
+use Rattle.vx_check.specs.Tables.{PutsPrice}
 use Rattle.vx_check.specs.StandsFor.{only_side, listed_half, AreListedHalves}
 use Rattle.vx_check.specs.NextRows.{both_sides, listed_row}
 use Rattle.vx_check.proofs.Rising.{same_from_items}
@@ -149,7 +149,7 @@ changes_at s events e rows new_rows halves new_halves row half quiet h in_rows i
 -- ---- a series is listed
 
 put_rows : (k : ℕ) (lc : Bool) (pc : Price)
-    → row_when_listed Put (only_side k false lc no_price pc) (both_sides k false lc no_price pc) ≡ both_sides k true lc no_price pc
+    → row_once_listed Put (only_side k false lc no_price pc) (both_sides k false lc no_price pc) ≡ both_sides k true lc no_price pc
 put_rows k true pc = refl
 put_rows k false pc = refl
 
@@ -158,7 +158,7 @@ put_halves k true pc = refl
 put_halves k false pc = refl
 
 call_rows : (k : ℕ) (lp : Bool) (pp : Price)
-    → row_when_listed Call (only_side k lp false pp no_price) (both_sides k lp false pp no_price) ≡ both_sides k lp true pp no_price
+    → row_once_listed Call (only_side k lp false pp no_price) (both_sides k lp false pp no_price) ≡ both_sides k lp true pp no_price
 call_rows k true pp = refl
 call_rows k false pp = refl
 
@@ -211,14 +211,14 @@ module _ (x : Expiry) (k : ℕ) (events : List Event) where
   }
 
   listing_row : (side : Side) → listed side ≡ false
-      → row_when_listed side (listed_half x events k) (listed_row x events k) ≡ listed_row x (events ++ event.Series (series_at x side k) ∷ []) k
+      → row_once_listed side (listed_half x events k) (listed_row x events k) ≡ listed_row x (events ++ event.Series (series_at x side k) ∷ []) k
   listing_row Put h =
-      ap (λ o. row_when_listed Put o (listed_row x events k)) (half_says x events k _ _ _ _ (put_before h))
-      ∙ ap (row_when_listed Put (only_side k false (listed Call) no_price (price Call))) (row_says x events k _ _ _ _ (put_before h))
+      ap (λ o. row_once_listed Put o (listed_row x events k)) (half_says x events k _ _ _ _ (put_before h))
+      ∙ ap (row_once_listed Put (only_side k false (listed Call) no_price (price Call))) (row_says x events k _ _ _ _ (put_before h))
       ∙ put_rows k (listed Call) (price Call) ∙ sym (row_says x (events ++ put_event ∷ []) k _ _ _ _ (put_after h))
   listing_row Call h =
-      ap (λ o. row_when_listed Call o (listed_row x events k)) (half_says x events k _ _ _ _ (call_before h))
-      ∙ ap (row_when_listed Call (only_side k (listed Put) false (price Put) no_price)) (row_says x events k _ _ _ _ (call_before h))
+      ap (λ o. row_once_listed Call o (listed_row x events k)) (half_says x events k _ _ _ _ (call_before h))
+      ∙ ap (row_once_listed Call (only_side k (listed Put) false (price Put) no_price)) (row_says x events k _ _ _ _ (call_before h))
       ∙ call_rows k (listed Put) (price Put) ∙ sym (row_says x (events ++ call_event ∷ []) k _ _ _ _ (call_after h))
 
   listing_half : (side : Side) → listed side ≡ false
@@ -238,7 +238,7 @@ keeps_listed s events rows new_rows halves new_halves unlisted h lists =
     let row = row_item x events rows halves h s.strike in
     let half = h.halves_are.each s.strike in
     changes_at s events (event.Series s) rows new_rows halves new_halves _ _ (other_listing s) h lists.in_rows lists.in_halves
-    (ap (λ o. row_when_listed s.side o (item_at row_strike s.strike rows)) half ∙ ap (row_when_listed s.side (listed_half x events s.strike)) row ∙ listing_row x s.strike events s.side unlisted)
+    (ap (λ o. row_once_listed s.side o (item_at row_strike s.strike rows)) half ∙ ap (row_once_listed s.side (listed_half x events s.strike)) row ∙ listing_row x s.strike events s.side unlisted)
     (ap (half_when_listed s.side s.strike) half ∙ listing_half x s.strike events s.side unlisted)
 
 -- ---- a series is quoted
@@ -330,7 +330,7 @@ module _ (x : Expiry) (k time bid ask : ℕ) (events : List Event) where
   quoted_half Call = call_half_quoted k (is_there Put) (is_there Call) (price_of bid ask) (old_price Put) (old_price Call) ∙ sym (half_says x (events ++ quote_event Call ∷ []) k _ _ _ _ call_quoted)
 
 pub keeps_quoted : (time : ℕ) (s : Symbol) (bid ask : ℕ) (events : List Event) (rows new_rows : List StrikeRow) (halves new_halves : List Half)
-    → Keeps (expiry_of s) events rows halves → SetsPrice s.side s.strike (price_of bid ask) rows new_rows halves new_halves
+    → Keeps (expiry_of s) events rows halves → PutsPrice s.side s.strike (price_of bid ask) rows new_rows halves new_halves
     → Keeps (expiry_of s) (events ++ event.Quote time s bid ask ∷ []) new_rows new_halves
 keeps_quoted time s bid ask events rows new_rows halves new_halves h sets =
     let x = expiry_of s in

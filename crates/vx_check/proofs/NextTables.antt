@@ -13,7 +13,7 @@ use Rattle.vx_feed.specs.declared.events.Event.{Event}
 use Rattle.vx_feed.specs.declared.events.Event.TheVariants as event
 use Rattle.vx_feed.specs.Same.{is_same_expiry}
 use Rattle.vx_feed.specs.Standing.{rate_of, standing_rate}
-use Rattle.vx_feed.specs.Listed.{declared_expiries, declared_expiry, expiry_of, is_declared, is_listed}
+use Rattle.vx_feed.specs.Listed.{declared_expiries, declared_expiry, expiry_of, is_declared, is_listed, price_of}
 use Rattle.vx_feed.specs.Order.{IsLawfulNext}
 use Rattle.vx_feed.specs.Ranges.{IsPrice}
 use Rattle.vx_feed.proofs.NextEvent.{next_rate}
@@ -22,8 +22,8 @@ use Rattle.vx_feed.proofs.SameLemmas.{expiry_from_same}
 use Rattle.vx_check.specs.declared.table.Half.{Half}
 use Rattle.vx_check.specs.declared.table.Table.{Table}
 use Rattle.vx_check.specs.Kept.{is_table_of}
-use Rattle.vx_check.specs.Tables.{AreBoth, AreRising, IsEmptyTable, IsSameTable, SetsRate, ListsInTable, QuotesInTable, TradesInTable, ChangesTable}
-use Rattle.vx_check.specs.Tables.{SameTables, TakesTables, expiry_of_table, price_of, SetsPrice}
+use Rattle.vx_check.specs.Tables.{AreBoth, AreRising, IsEmptyTable, IsTableKept, SetsRate, ListsInTable, QuotesInTable, TradesInTable, ChangesTable}
+use Rattle.vx_check.specs.Tables.{SameTables, TakesTables, expiry_of_table, PutsPrice}
 use Rattle.vx_check.proofs.Pushes.{not_undeclared, not_duplicate}
 use Rattle.vx_check.proofs.TableLists.{expiry_self}
 use Rattle.vx_check.proofs.NextSeries.{Keeps, IsQuietAt, listed_rows_still_rise, keeps_quiet, keeps_listed, keeps_quoted, apart_listing, apart_quote}
@@ -137,7 +137,7 @@ says_listed (Some t) (Some u) s events unlisted there both h =
 
 -- ---- a quote
 
-none_quoted : (s : Symbol) (bid ask : ℕ) → SetsPrice s.side s.strike (price_of bid ask) [] [] [] []
+none_quoted : (s : Symbol) (bid ask : ℕ) → PutsPrice s.side s.strike (price_of bid ask) [] [] [] []
 none_quoted s bid ask = record {
   in_rows = record { rises = tt; at_key = refl; others = λ other ne. refl };
   in_halves = record { rises = tt; at_key = refl; others = λ other ne. refl };
@@ -256,7 +256,7 @@ expiries_after opened old new (event.Quote time s bid ask) h = same_or_more old 
 
 -- ---- nothing changed
 
-says_same : (o new : Option Table) (x : Expiry) (events : List Event) → AreBoth IsSameTable o new → Says o x events → Says new x events
+says_same : (o new : Option Table) (x : Expiry) (events : List Event) → AreBoth IsTableKept o new → Says o x events → Says new x events
 says_same None None x events both h = h
 says_same None (Some u) x events both h = absurd both
 says_same (Some t) None x events both h = absurd both

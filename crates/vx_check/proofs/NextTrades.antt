@@ -26,7 +26,7 @@ use Rattle.vx_check.specs.declared.trades.FirstTrades.{FirstTrades}
 use Rattle.vx_check.specs.Rising.{item_at}
 use Rattle.vx_check.specs.Kept.{is_table_of}
 use Rattle.vx_check.specs.Trades.{SetsTrade, is_listed_in, price_of_trade, traded_at, traded_on, trades_strike, trades_when_traded}
-use Rattle.vx_check.specs.Tables.{row_strike, half_strike, AreBoth, AreRising, IsEmptyTable, IsSameTable, SetsRate, ListsInTable, QuotesInTable}
+use Rattle.vx_check.specs.Tables.{row_strike, half_strike, AreBoth, AreRising, IsEmptyTable, IsTableKept, SetsRate, ListsInTable, QuotesInTable}
 use Rattle.vx_check.specs.Tables.{TradesInTable, ChangesTable, SameTables, TakesTables, is_listed_in_table}
 use Rattle.vx_check.specs.StandsFor.{AreFirstTrades, only_side, listed_half}
 use Rattle.vx_check.specs.NextRows.{both_sides, listed_row}
@@ -325,5 +325,5 @@ all_traded_after false old new events (event.Trade time t cents) is lawful h say
 
 pub all_traded_still : (old new : List Table) (events : List Event) → SameTables old new → AllTraded old events → AllTraded new events
 all_traded_still old new events h all =
-    all_still old new events events (λ x. both_as_before IsSameTable (λ t u r. r.trades) (find (is_table_of x) old)
+    all_still old new events events (λ x. both_as_before IsTableKept (λ t u r. r.trades) (find (is_table_of x) old)
     (find (is_table_of x) new) (h.each x)) (λ s. refl) all

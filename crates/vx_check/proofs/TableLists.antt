@@ -14,7 +14,7 @@ use Rattle.vx_feed.specs.Same.{is_same_root, is_same_expiry}
 use Rattle.vx_feed.proofs.SameLemmas.{expiry_from_same}
 use Rattle.vx_check.specs.declared.table.Table.{Table}
 use Rattle.vx_check.specs.Kept.{is_table_of}
-use Rattle.vx_check.specs.Tables.{IsFirstAt, AreBoth, IsSameTable, ChangesTable, SameTables, expiry_of_table}
+use Rattle.vx_check.specs.Tables.{IsFirstAt, AreBoth, IsTableKept, ChangesTable, SameTables, expiry_of_table}
 
 -- ---- sameness of expiries
 
@@ -118,18 +118,18 @@ changed_at x R place xs old new f is e r =
 pub none_changed : (x : Expiry) (R : Table → Table → Type 0) (xs : List Table) → find (is_table_of x) xs ≡ None → ChangesTable x R xs xs
 none_changed x R xs e = record { expiries = refl; others = λ y apart. refl; own = subst (λ (o : Option Table). AreBoth R o o) (sym e) tt }
 
-same_itself : (o : Option Table) → AreBoth IsSameTable o o
+same_itself : (o : Option Table) → AreBoth IsTableKept o o
 same_itself None = tt
 same_itself (Some table) = record { expiry = refl; rate = refl; rows = refl; halves = refl; trades = refl }
 
 pub same_tables : (xs ys : List Table) → ys ≡ xs → SameTables xs ys
 same_tables xs ys e = subst (λ (l : List Table). SameTables xs l) (sym e) (record { expiries = refl; each = λ x. same_itself (find (is_table_of x) xs) })
 
-pub same_from_changed : (x : Expiry) (xs ys : List Table) → ChangesTable x IsSameTable xs ys → SameTables xs ys
+pub same_from_changed : (x : Expiry) (xs ys : List Table) → ChangesTable x IsTableKept xs ys → SameTables xs ys
 same_from_changed x xs ys h = record {
   expiries = h.expiries;
   each = λ y. elim (cases_Bool (is_same_expiry y x)) [
-    | inl same ↦ subst (λ z. AreBoth IsSameTable (find (is_table_of z) xs) (find (is_table_of z) ys)) (sym (expiry_from_same y x same)) h.own
-    | inr apart ↦ subst (λ (o : Option Table). AreBoth IsSameTable (find (is_table_of y) xs) o) (sym (h.others y apart)) (same_itself (find (is_table_of y) xs))
+    | inl same ↦ subst (λ z. AreBoth IsTableKept (find (is_table_of z) xs) (find (is_table_of z) ys)) (sym (expiry_from_same y x same)) h.own
+    | inr apart ↦ subst (λ (o : Option Table). AreBoth IsTableKept (find (is_table_of y) xs) o) (sym (h.others y apart)) (same_itself (find (is_table_of y) xs))
   ];
 }

@@ -10,7 +10,7 @@ use Rattle.vx_feed.specs.Same.{is_same_side}
 use Rattle.vx_feed.specs.Listed.{no_price}
 use Rattle.vx_check.specs.declared.table.Half.{Half}
 use Rattle.vx_check.specs.Rising.{Rises, item_at, StandsAt, FitsAt, IsWith}
-use Rattle.vx_check.specs.Tables.{row_strike, half_strike, joined, row_when_listed, half_when_listed, row_with_price, half_with_price}
+use Rattle.vx_check.specs.Tables.{row_strike, half_strike, joined, row_once_listed, half_when_listed, row_with_price, half_with_price}
 use Rattle.vx_check.specs.Tables.{half_when_quoted, ListsSeries}
 use Rattle.vx_check.proofs.Rising.{item_that_stands, key_that_stands, none_that_fits, with_inserted, with_removed, with_same}
 
@@ -50,7 +50,7 @@ lists_second side k place rows new_rows halves new_halves half row s r is e with
     let at_strike : IsWith row_strike k (Some row) rows new_rows = subst (λ n. IsWith row_strike n (Some row) rows new_rows) its_strike with_row in
     let in_rows : IsWith row_strike k (Some (joined half side)) rows new_rows = subst (λ (o : StrikeRow). IsWith row_strike k (Some o) rows new_rows) e at_strike in
     let in_halves : IsWith half_strike k None halves new_halves = subst (λ (l : List Half). IsWith half_strike k None halves l) (sym removed) (with_removed half_strike k place halves s r) in
-    let Both : Option Half → Type 0 = λ o. (IsWith row_strike k (row_when_listed side o (item_at row_strike k rows)) rows new_rows) × IsWith half_strike k (half_when_listed side k o) halves new_halves in
+    let Both : Option Half → Type 0 = λ o. (IsWith row_strike k (row_once_listed side o (item_at row_strike k rows)) rows new_rows) × IsWith half_strike k (half_when_listed side k o) halves new_halves in
     let both = subst Both (sym item) (in_rows, in_halves) in
     record { in_rows = both.0; in_halves = both.1 }
 
@@ -63,7 +63,7 @@ lists_first side k place rows halves new_halves s rows_rise r added =
     let item : item_at half_strike k halves ≡ None = none_that_fits half_strike k place 0 halves s r in
     let in_rows : IsWith row_strike k (item_at row_strike k rows) rows rows = with_same row_strike k rows rows_rise in
     let in_halves : IsWith half_strike k (Some half) halves new_halves = subst (λ (l : List Half). IsWith half_strike k (Some half) halves l) (sym added) (with_inserted half_strike half place halves s r) in
-    let Both : Option Half → Type 0 = λ o. (IsWith row_strike k (row_when_listed side o (item_at row_strike k rows)) rows rows) × IsWith half_strike k (half_when_listed side k o) halves new_halves in
+    let Both : Option Half → Type 0 = λ o. (IsWith row_strike k (row_once_listed side o (item_at row_strike k rows)) rows rows) × IsWith half_strike k (half_when_listed side k o) halves new_halves in
     let both = subst Both (sym item) (in_rows, in_halves) in
     record { in_rows = both.0; in_halves = both.1 }
 

@@ -6,12 +6,12 @@ use Rattle.vx_cert.specs.declared.certificate.CertBody.{CertBody}
 use Rattle.vx_cert.specs.declared.certificate.CertBody.TheVariants.{K0, Single, Index, Soq}
 use Rattle.vx_claims.specs.declared.acceptance.Test.{Test}
 use Rattle.vx_claims.specs.declared.acceptance.Test.TheVariants.{Square}
-use Rattle.vx_tests.specs.Ranges.{IsSquareInRange}
+use Rattle.vx_tests.specs.Ranges.{IsSquareAdmitted}
 use Rattle.vx_tests.specs.Terms.{NumbersMeet}
 
 -- of a figure: the square alone bounds what comes later
 abbrev pub FigureNumbersMeet : ℕ → CertFigure → Test → Type 0
-FigureNumbersMeet P figure Square = IsSquareInRange P figure.x
+FigureNumbersMeet P figure Square = IsSquareAdmitted P figure.x
 FigureNumbersMeet P figure _ = Unit {0}
 
 -- of one term and its figure

@@ -18,17 +18,13 @@ use Rattle.vx_check.specs.Kept.{kept_rate, kept_rows, kept_halves, kept_trades}
 use Rattle.vx_check.specs.Trades.{trades_strike, price_of_trade, traded_at}
 use Rattle.vx_check.specs.Opening.{IsOpeningOfEvents, ChangesOpening}
 use Rattle.vx_check.specs.Tables.{half_strike, expiry_of_table, TakesTables, SameTables}
+use Rattle.vx_feed.specs.Order.{tick_minute}
 
 -- the last event
 abbrev pub last_event : List Event → Option Event
 last_event [] = None
 last_event (e ∷ []) = Some e
 last_event (e ∷ f ∷ events) = last_event (f ∷ events)
-
--- the minute of a tick
-abbrev pub tick_minute : Event → Option ℕ
-tick_minute (event.Tick time) = Some time
-tick_minute _ = None
 
 -- a strike's only listed side with its price; none where both are listed, or neither
 abbrev pub only_side : ℕ → Bool → Bool → Price → Price → Option Half
@@ -57,7 +53,7 @@ pub record AreFirstTrades (x : Expiry) (events : List Event) (trades : List Firs
 
 -- the book keeps all that the events say of its number, the trade date, the expiries, their rates, their listed rows and the
 -- first trades of their series, of the opening, and whether the last of them is a tick
-pub record StandsFor (book : PlainBook) (events : List Event) : Type 0 where
+pub record PlainStandsFor (book : PlainBook) (events : List Event) : Type 0 where
   pub lines : book.lines ≡ length events
   pub day : book.day ≡ trade_date events
   pub tick : book.tick ≡ option_and_then tick_minute (last_event events)
@@ -70,7 +66,7 @@ pub record StandsFor (book : PlainBook) (events : List Event) : Type 0 where
   pub opening : MatchOption book.opening (opening_time events ≡ None) (IsOpeningOfEvents events)
 
 -- what an event changes of the trade date, the expiries, their tables and the opening; the rest stays
-pub record Takes (old : PlainBook) (e : Event) (new : PlainBook) : Type 0 where
+pub record PlainTakes (old : PlainBook) (e : Event) (new : PlainBook) : Type 0 where
   pub lines : new.lines ≡ old.lines
   pub day : new.day ≡ option_or (header_day e) old.day
   pub expiries : new.expiries.items ≡ old.expiries.items ++ option_to_list (declared_expiry e)

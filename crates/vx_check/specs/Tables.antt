@@ -10,8 +10,7 @@ use Rattle.vx_feed.specs.declared.events.Event.{Event}
 use Rattle.vx_feed.specs.declared.events.Event.TheVariants as event
 use Rattle.vx_feed.specs.Same.{is_same_expiry, is_same_side}
 use Rattle.vx_feed.specs.Ranges.{IsPrice}
-use Rattle.vx_feed.specs.Standing.{if_standing}
-use Rattle.vx_feed.specs.Listed.{expiry_of, no_price, quoted_price}
+use Rattle.vx_feed.specs.Listed.{expiry_of, no_price, price_of}
 use Rattle.vx_check.specs.declared.table.Half.{Half}
 use Rattle.vx_check.specs.declared.table.Table.{Table}
 use Rattle.vx_check.specs.Kept.{is_table_of}
@@ -26,19 +25,15 @@ row_strike row = row.strike
 abbrev pub half_strike : Half → ℕ
 half_strike half = half.strike
 
--- the price of a quote
-abbrev pub price_of : ℕ → ℕ → Price
-price_of bid ask = quoted_price (if_standing (record { bid = bid; ask = ask }))
-
 -- the row of a strike of which one side was listed, and the other is now
 abbrev pub joined : Half → Side → StrikeRow
 joined half Put = record { strike = half.strike; put = no_price; call = half.price }
 joined half Call = record { strike = half.strike; put = half.price; call = no_price }
 
 -- the row of a strike, where one of its sides is listed now and the other was listed or not
-abbrev pub row_when_listed : Side → Option Half → Option StrikeRow → Option StrikeRow
-row_when_listed side None row = row
-row_when_listed side (Some half) row = Some (joined half side)
+abbrev pub row_once_listed : Side → Option Half → Option StrikeRow → Option StrikeRow
+row_once_listed side None row = row
+row_once_listed side (Some half) row = Some (joined half side)
 
 -- the strike's only side
 abbrev pub half_when_listed : Side → ℕ → Option Half → Option Half
@@ -89,7 +84,7 @@ pub record IsEmptyTable (x : Expiry) (table : Table) : Type 0 where
   pub trades : table.trades.items ≡ []
 
 -- the table says what it said
-pub record IsSameTable (old new : Table) : Type 0 where
+pub record IsTableKept (old new : Table) : Type 0 where
   pub expiry : new.expiry ≡ old.expiry
   pub rate : new.rate ≡ old.rate
   pub rows : new.rows.items ≡ old.rows.items
@@ -106,11 +101,11 @@ pub record SetsRate (rate : ℤ) (old new : Table) : Type 0 where
 
 -- what listing a series changes of the lists of rows and of single sides
 pub record ListsSeries (side : Side) (strike : ℕ) (rows new_rows : List StrikeRow) (halves new_halves : List Half) : Type 0 where
-  pub in_rows : IsWith row_strike strike (row_when_listed side (item_at half_strike strike halves) (item_at row_strike strike rows)) rows new_rows
+  pub in_rows : IsWith row_strike strike (row_once_listed side (item_at half_strike strike halves) (item_at row_strike strike rows)) rows new_rows
   pub in_halves : IsWith half_strike strike (half_when_listed side strike (item_at half_strike strike halves)) halves new_halves
 
 -- what a quote changes of them
-pub record SetsPrice (side : Side) (strike : ℕ) (price : Price) (rows new_rows : List StrikeRow) (halves new_halves : List Half) : Type 0 where
+pub record PutsPrice (side : Side) (strike : ℕ) (price : Price) (rows new_rows : List StrikeRow) (halves new_halves : List Half) : Type 0 where
   pub in_rows : IsWith row_strike strike (option_map (row_with_price side price) (item_at row_strike strike rows)) rows new_rows
   pub in_halves : IsWith half_strike strike (half_when_quoted side price (item_at row_strike strike rows) (item_at half_strike strike halves)) halves new_halves
 
@@ -126,7 +121,7 @@ pub record SetsPriceInTable (side : Side) (strike : ℕ) (price : Price) (old ne
   pub expiry : new.expiry ≡ old.expiry
   pub rate : new.rate ≡ old.rate
   pub trades : new.trades.items ≡ old.trades.items
-  pub series : AreRising old → SetsPrice side strike price old.rows.items new.rows.items old.halves.items new.halves.items
+  pub series : AreRising old → PutsPrice side strike price old.rows.items new.rows.items old.halves.items new.halves.items
 
 -- what a quote changes of the table of its expiry
 pub record QuotesInTable (side : Side) (strike bid ask : ℕ) (old new : Table) : Type 0 where
@@ -134,7 +129,7 @@ pub record QuotesInTable (side : Side) (strike bid ask : ℕ) (old new : Table) 
   pub rate : new.rate ≡ old.rate
   pub trades : new.trades.items ≡ old.trades.items
   pub series : IsPrice bid → IsPrice ask → AreRising old
-      → SetsPrice side strike (price_of bid ask) old.rows.items new.rows.items old.halves.items new.halves.items
+      → PutsPrice side strike (price_of bid ask) old.rows.items new.rows.items old.halves.items new.halves.items
 
 -- the series of a side and a strike is listed in the table
 abbrev pub is_listed_in_table : Side → ℕ → Table → Bool
@@ -190,7 +185,7 @@ pub record ChangesTable (x : Expiry) (R : Table → Table → Type 0) (old new :
 -- every table says what it said
 pub record SameTables (old new : List Table) : Type 0 where
   pub expiries : map expiry_of_table new ≡ map expiry_of_table old
-  pub each : (x : Expiry) → AreBoth IsSameTable (find (is_table_of x) old) (find (is_table_of x) new)
+  pub each : (x : Expiry) → AreBoth IsTableKept (find (is_table_of x) old) (find (is_table_of x) new)
 
 -- an empty table more
 pub record AddsTable (x : Expiry) (old new : List Table) : Type 0 where

@@ -2,8 +2,8 @@
 
 ghost use Rattle.std.specs.Prelude.{◌≡◌, ℕ, [], ◌∷◌, ◌++◌, List, IfOk, OnOk, OnErr, option_map};
 ghost use Rattle.vx_feed.specs.declared.events.Event.{Event};
-ghost use Rattle.vx_feed.specs.Order.{IsLawfulNext};
-ghost use Rattle.vx_check.specs.StandsFor.{StandsFor, Takes, IsSameBook, tick_minute};
+ghost use Rattle.vx_feed.specs.Order.{IsLawfulNext, tick_minute};
+ghost use Rattle.vx_check.specs.StandsFor.{PlainStandsFor, PlainTakes, IsSameBook};
 ghost use Rattle.vx_check.specs.Kept.{kept_rate, kept_rows};
 
 use crate::opening::Opening;
@@ -34,7 +34,7 @@ pub struct PlainBook {
 impl PlainBook {
     /// The book of no event.
     pub fn new(alloc: Global) -> Result<PlainBook, NoMemory>
-        ensures { IfOk result (λ book. StandsFor book []) }
+        ensures { IfOk result (λ book. PlainStandsFor book []) }
     {
         Ok(PlainBook {
             lines: 0,
@@ -49,9 +49,10 @@ impl PlainBook {
 
     /// Takes the next event. After a refusal the book stands for the events that it stood for before.
     pub fn push(&mut self, e: Event) -> Result<(), NoMemory>
-        ensures taken { (events : List Event) → StandsFor self.old events → IsLawfulNext events e
-            → OnOk result (StandsFor self.new (events ++ e ∷ [])) }
-        ensures refused { (events : List Event) → StandsFor self.old events → OnErr result (StandsFor self.new events) }
+        ensures taken { (events : List Event) → PlainStandsFor self.old events → IsLawfulNext events e
+            → OnOk result (PlainStandsFor self.new (events ++ e ∷ [])) }
+        ensures refused { (events : List Event) → PlainStandsFor self.old events
+            → OnErr result (PlainStandsFor self.new events) }
     {
         self.take(e)?;
         self.tick = tick_minute(e);
@@ -61,7 +62,7 @@ impl PlainBook {
 
     /// Takes what an event says of the trade date, the expiries, their series and the opening.
     fn take(&mut self, e: Event) -> Result<(), NoMemory>
-        ensures taken { OnOk result (Takes self.old e self.new) }
+        ensures taken { OnOk result (PlainTakes self.old e self.new) }
         ensures refused { OnErr result (IsSameBook self.old self.new) }
     {
         match e {
@@ -146,7 +147,7 @@ impl PlainBook {
     }
 
     fn declare(&mut self, expiry: Expiry) -> Result<(), NoMemory>
-        ensures taken { OnOk result (Takes self.old (Event.Expiry expiry) self.new) }
+        ensures taken { OnOk result (PlainTakes self.old (Event.Expiry expiry) self.new) }
         ensures refused { OnErr result (IsSameBook self.old self.new) }
     {
         self.tables.push(Table::new(self.alloc, expiry))?;
@@ -159,7 +160,7 @@ impl PlainBook {
 
     /// Keeps a trade before the opening, if it is the first of its series; a later one says nothing.
     fn trade(&mut self, symbol: &Symbol, cents: u32) -> Result<(), NoMemory>
-        ensures taken { (time : ℕ) → OnOk result (Takes self.old (Event.Trade time symbol.now cents) self.new) }
+        ensures taken { (time : ℕ) → OnOk result (PlainTakes self.old (Event.Trade time symbol.now cents) self.new) }
         ensures refused { OnErr result (IsSameBook self.old self.new) }
     {
         if self.opening.is_some() {
@@ -170,7 +171,7 @@ impl PlainBook {
 
     /// Takes the opening over what the book keeps.
     fn open(&mut self, time: u16) -> Result<(), NoMemory>
-        ensures taken { OnOk result (Takes self.old (Event.Opening time) self.new) }
+        ensures taken { OnOk result (PlainTakes self.old (Event.Opening time) self.new) }
         ensures refused { OnErr result (IsSameBook self.old self.new) }
     {
         let term = tables::opening_term(self.alloc, &self.tables, self.day)?;

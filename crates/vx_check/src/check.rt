@@ -6,7 +6,7 @@ ghost use Rattle.vx_feed.specs.Order.{AreLawful};
 ghost use Rattle.vx_claims.specs.Accepts.{scale_of, IsVersion, Meets};
 ghost use Rattle.vx_claims.specs.Means.{Means};
 ghost use Rattle.vx_check.specs.declared.verdict.Verdict.TheVariants.{Yes};
-ghost use Rattle.vx_check.specs.StandsFor.{StandsFor};
+ghost use Rattle.vx_check.specs.StandsFor.{PlainStandsFor};
 ghost use Rattle.vx_check.specs.Reached.{IsReached};
 ghost use Rattle.vx_check.specs.Answers.{AreMetBefore, IsAnswerOver};
 ghost use Rattle.vx_check.specs.Numbers.{BodyNumbersMeet};
@@ -25,10 +25,10 @@ use vx_tests::order::{TEST_COUNT, numbered};
 /// Tests a certificate over the events pushed so far, which reach its feed line at most. Kind `index` is
 /// tested for 30 days within a window of 7.
 pub fn check_cert(book: &PlainBook, c: &Certificate) -> Verdict
-    ensures answer { (pushed : List Event) → StandsFor book.now pushed → AreLawful pushed → length pushed ≤ c.now.line
-        → IsAnswerOver pushed c.now result }
-    ensures sound { (pushed : List Event) → StandsFor book.now pushed → AreLawful pushed → length pushed ≤ c.now.line
-        → IsVersion c.now.v → result ≡ Yes → Means pushed c.now }
+    ensures answer { (pushed : List Event) → PlainStandsFor book.now pushed → AreLawful pushed
+        → length pushed ≤ c.now.line → IsAnswerOver pushed c.now result }
+    ensures sound { (pushed : List Event) → PlainStandsFor book.now pushed → AreLawful pushed
+        → length pushed ≤ c.now.line → IsVersion c.now.v → result ≡ Yes → Means pushed c.now }
 {
     for number in 1..TEST_COUNT + 1 {
         if !cert_meets(book, c, numbered(number)) {

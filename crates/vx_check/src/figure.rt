@@ -3,7 +3,7 @@
 ghost use Rattle.std.specs.Prelude.{◌≡◌, ◌*◌, ◌≤◌, ◌↔◌, IsTrue};
 ghost use Rattle.vx_claims.specs.Test.{test_number};
 ghost use Rattle.vx_claims.specs.Accepts.{scale_of, FigureMeets, SingleFigureMeets};
-ghost use Rattle.vx_tests.specs.Ranges.{IsVarianceInRange};
+ghost use Rattle.vx_tests.specs.Ranges.{IsVarianceAdmitted};
 ghost use Rattle.vx_check.specs.Numbers.{FigureNumbersMeet};
 ghost use Rattle.vx_check.specs.Answers.{IsVerdictFrom};
 
@@ -20,8 +20,8 @@ use vx_tests::scale::scale_of;
 /// The ends of both variances are within `6 * 2^P`, at the scale `P` of the version.
 pub fn check_figure(v: u32, near: &CertTerm, next: &CertTerm, days: u32, f: &CertFigure) -> Verdict
     requires days { days ≤ FIGURE_DAYS_MAX }
-    requires near { IsVarianceInRange (scale_of v) near.now.w }
-    requires next { IsVarianceInRange (scale_of v) next.now.w }
+    requires near { IsVarianceAdmitted (scale_of v) near.now.w }
+    requires next { IsVarianceAdmitted (scale_of v) next.now.w }
     ensures { IsVerdictFrom (test_number Test.Square) (test_number Test.IndexEnds)
         (FigureMeets v days near.now next.now f.now) result }
 {
@@ -44,8 +44,8 @@ pub(crate) fn figure_meets(
     test: Test,
 ) -> bool
     requires days { days ≤ FIGURE_DAYS_MAX }
-    requires near { test ≡ Test.Square → IsVarianceInRange (scale_of version) near.now.w }
-    requires next { test ≡ Test.Square → IsVarianceInRange (scale_of version) next.now.w }
+    requires near { test ≡ Test.Square → IsVarianceAdmitted (scale_of version) near.now.w }
+    requires next { test ≡ Test.Square → IsVarianceAdmitted (scale_of version) next.now.w }
     requires square { test ≡ Test.IndexEnds → FigureNumbersMeet (scale_of version) figure.now Test.Square }
     ensures exact { IsTrue result ↔ FigureMeets version days near.now next.now figure.now test }
     ensures numbers { IsTrue result → FigureNumbersMeet (scale_of version) figure.now test }
@@ -66,8 +66,8 @@ fn encloses_joined_square(
     figure: &CertFigure,
 ) -> bool
     requires days { days ≤ FIGURE_DAYS_MAX }
-    requires near { IsVarianceInRange (scale_of version) near.now.w }
-    requires next { IsVarianceInRange (scale_of version) next.now.w }
+    requires near { IsVarianceAdmitted (scale_of version) near.now.w }
+    requires next { IsVarianceAdmitted (scale_of version) next.now.w }
     ensures exact { IsTrue result ↔ FigureMeets version days near.now next.now figure.now Test.Square }
     ensures numbers { IsTrue result → FigureNumbersMeet (scale_of version) figure.now Test.Square }
 {
@@ -86,7 +86,7 @@ pub(crate) fn single_figure_meets(
     figure: &CertFigure,
     test: Test,
 ) -> bool
-    requires variance { test ≡ Test.Square → IsVarianceInRange (scale_of version) term.now.w }
+    requires variance { test ≡ Test.Square → IsVarianceAdmitted (scale_of version) term.now.w }
     requires square { test ≡ Test.IndexEnds → FigureNumbersMeet (scale_of version) figure.now Test.Square }
     ensures exact { IsTrue result ↔ SingleFigureMeets version term.now figure.now test }
     ensures numbers { IsTrue result → FigureNumbersMeet (scale_of version) figure.now test }

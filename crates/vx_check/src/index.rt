@@ -10,7 +10,7 @@ ghost use Rattle.vx_claims.specs.Accepts.{scale_of, TermMeetsAt, IsVersion};
 ghost use Rattle.vx_tests.specs.Terms.{AreNumbersMet, NumbersMeet};
 ghost use Rattle.vx_claims.specs.Means.{MeansFor};
 ghost use Rattle.vx_check.specs.declared.verdict.Verdict.TheVariants.{Yes};
-ghost use Rattle.vx_check.specs.StandsFor.{StandsFor};
+ghost use Rattle.vx_check.specs.StandsFor.{PlainStandsFor};
 ghost use Rattle.vx_check.specs.Reached.{IsReached, IsAtTick};
 ghost use Rattle.vx_check.specs.Answers.{AreMetBefore, IsVerdict, MeetsAsIndex};
 ghost use Rattle.vx_check.specs.Numbers.{IndexNumbersMeet};
@@ -30,9 +30,9 @@ use vx_tests::order::{TEST_COUNT, number_of, numbered};
 pub fn check_index(book: &PlainBook, c: &Certificate, days: u32, window: u32) -> Verdict
     requires days { days ≤ FIGURE_DAYS_MAX }
     requires window { window ≤ WINDOW_MAX }
-    ensures answer { (pushed : List Event) → StandsFor book.now pushed → length pushed ≤ c.now.line
+    ensures answer { (pushed : List Event) → PlainStandsFor book.now pushed → length pushed ≤ c.now.line
         → IsVerdict (MeetsAsIndex days window pushed c.now) result }
-    ensures sound { (pushed : List Event) → StandsFor book.now pushed → length pushed ≤ c.now.line
+    ensures sound { (pushed : List Event) → PlainStandsFor book.now pushed → length pushed ≤ c.now.line
         → AreLawful pushed → IsVersion c.now.v → result ≡ Yes → MeansFor days window pushed c.now }
 {
     for number in 1..TEST_COUNT + 1 {

@@ -2,7 +2,7 @@
 
 ghost use Rattle.std.specs.Prelude.{◌≡◌};
 ghost use Rattle.vx_feed.specs.Ranges.{IsPrice};
-ghost use Rattle.vx_check.specs.Tables.{price_of};
+ghost use Rattle.vx_feed.specs.Listed.{price_of};
 ghost use Rattle.vx_check.specs.Trades.{price_of_trade};
 
 use vx_symbol::Price;

@@ -6,7 +6,7 @@ ghost use Rattle.vx_feed.specs.Order.{AreLawful};
 ghost use Rattle.vx_claims.specs.Seen.{IsOpeningAt, opening_expiry};
 ghost use Rattle.vx_claims.specs.Accepts.{scale_of, IsOpeningExpiry, OpeningTermMeets, SoqMeets};
 ghost use Rattle.vx_tests.specs.Terms.{AreNumbersMet, NumbersMeet};
-ghost use Rattle.vx_check.specs.StandsFor.{StandsFor};
+ghost use Rattle.vx_check.specs.StandsFor.{PlainStandsFor};
 ghost use Rattle.vx_check.specs.declared.opening.Opening.{Opening};
 ghost use Rattle.vx_check.specs.Reached.{IsReached, IsAtOpening};
 ghost use Rattle.vx_check.specs.Answers.{AreMetBefore};
@@ -47,7 +47,7 @@ pub(crate) fn soq_meets(
 
 /// The opening was taken at this line and minute of the day. A lawful feed has no other opening.
 fn is_opening_at(book: &PlainBook, line: u64, time: u16) -> bool
-    ensures { (events : List Event) → StandsFor book.now events → AreLawful events
+    ensures { (events : List Event) → PlainStandsFor book.now events → AreLawful events
         → (IsTrue result ↔ IsOpeningAt events line time) }
 {
     match book.opening() {

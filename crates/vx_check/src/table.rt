@@ -4,7 +4,7 @@ ghost use Rattle.std.specs.Prelude.{◌≡◌, ◌≤◌, ◌↔◌, IsTrue, len
 ghost use Rattle.vx_feed.specs.Same.{is_same_side};
 ghost use Rattle.vx_check.specs.Rising.{Rises, HasKeyAt, IsPlaceOfKey, IsPlaceFrom, IsPlaceWithin, item_at};
 ghost use Rattle.vx_check.specs.Tables.{row_strike, half_strike, joined, row_with_price, half_with_price, is_listed_in_table};
-ghost use Rattle.vx_check.specs.Tables.{AreRising, IsEmptyTable, IsSameTable, ListsInTable, PutsRow, SetsHalfPrice};
+ghost use Rattle.vx_check.specs.Tables.{AreRising, IsEmptyTable, IsTableKept, ListsInTable, PutsRow, SetsHalfPrice};
 ghost use Rattle.vx_check.specs.Tables.{SetsPriceInTable, SetsTradeInTable};
 ghost use Rattle.vx_check.specs.Trades.{is_listed_in};
 ghost use Rattle.vx_check.specs.Opening.{IsTermOfTable};
@@ -64,7 +64,7 @@ impl Table {
     /// Lists a series that is not listed yet. After a refusal nothing has changed.
     pub fn list(&mut self, side: Side, strike: u32) -> Result<(), NoMemory>
         ensures listed { OnOk result (ListsInTable side strike self.old self.new) }
-        ensures refused { OnErr result (IsSameTable self.old self.new) }
+        ensures refused { OnErr result (IsTableKept self.old self.new) }
     {
         match place_of_half(self.halves.as_slice(), strike) {
             Ok(place) => {
@@ -101,7 +101,7 @@ impl Table {
     /// none. After a refusal nothing has changed.
     pub fn trade(&mut self, side: Side, strike: u32, price: Price) -> Result<(), NoMemory>
         ensures traded { OnOk result (SetsTradeInTable side strike price self.old self.new) }
-        ensures refused { OnErr result (IsSameTable self.old self.new) }
+        ensures refused { OnErr result (IsTableKept self.old self.new) }
     {
         if self.is_listed(side, strike) {
             trades::keep_first(&mut self.trades, side, strike, price)

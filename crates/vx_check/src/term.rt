@@ -5,7 +5,7 @@ ghost use Rattle.vx_feed.specs.declared.events.Event.{Event};
 ghost use Rattle.vx_claims.specs.Accepts.{scale_of, TermMeetsAt};
 ghost use Rattle.vx_tests.specs.Terms.{AreNumbersMet, NumbersMeet};
 ghost use Rattle.vx_check.specs.Reached.{IsReached};
-ghost use Rattle.vx_check.specs.StandsFor.{StandsFor};
+ghost use Rattle.vx_check.specs.StandsFor.{PlainStandsFor};
 ghost use Rattle.vx_check.specs.Answers.{IsVerdictFrom};
 
 use crate::book::PlainBook;
@@ -31,7 +31,7 @@ pub fn check_term(
     requires most { first ≤ 6 }
     requires order { first ≤ last }
     requires last { last ≤ 14 }
-    ensures { (events : List Event) → StandsFor book.now events → length events ≤ line
+    ensures { (events : List Event) → PlainStandsFor book.now events → length events ≤ line
         → IsVerdictFrom first last (TermMeetsAt events v line time t.now) result }
 {
     for number in first..last + 1 {

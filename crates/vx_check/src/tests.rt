@@ -1,7 +1,7 @@
 //! Verdicts over the first sample feed.
 
 ghost use Rattle.std.specs.Prelude.{IfOk};
-ghost use Rattle.vx_tests.specs.Ranges.{IsVarianceInRange};
+ghost use Rattle.vx_tests.specs.Ranges.{IsVarianceAdmitted};
 
 use crate::{PlainBook, Verdict, check_cert, check_figure, check_index, check_term};
 use std::alloc::Global;
@@ -117,7 +117,7 @@ fn asks_for_a_rate_of_zero(rt: HostRuntime) -> Result<(), Fail> {
 // The one term of the sample certificate of version 1, so many minutes from its settlement: at rate zero
 // each Taylor list is 2^60 and zeros.
 fn october_term(alloc: Global, minutes: u32) -> Result<CertTerm, NoMemory>
-    ensures { IfOk result (λ term. IsVarianceInRange 60 term.w) }
+    ensures { IfOk result (λ term. IsVarianceAdmitted 60 term.w) }
 {
     let stated: [(u32, u32, u64); 3] = [
         (1_900_000, 4_000, 319_368_837_841_231),

@@ -11,7 +11,8 @@ use Rattle.vx_replay.specs.Joinable.{CanBeWritten}
 use Rattle.vx_replay.specs.Lawful.{IsLawfulAnswer}
 use Rattle.vx_replay.specs.Stepped.{IsAnswerNext, IsStepAnswer}
 use Rattle.vx_replay.specs.Ticks.{IsIndexAnswer}
-use Rattle.vx_cli.specs.ReplayRuns.{GivesAnswer, IsAnsweredLast, minute_of_tick}
+use Rattle.vx_cli.specs.ReplayRuns.{GivesAnswer, IsAnsweredLast}
+use Rattle.vx_feed.specs.Order.{tick_minute}
 
 -- ---- the last event
 
@@ -26,18 +27,18 @@ at_last events e =
     ap (λ (n : ℕ). slice_get (events ++ e ∷ []) n) one_less ∙ after_all events e
 
 abbrev pub minute_at : Option Event → Option ℕ
-minute_at (Some e) = minute_of_tick e
+minute_at (Some e) = tick_minute e
 minute_at None = None
 
 -- an event without a tick's minute is no tick
-pub is_no_tick : (e : Event) → minute_of_tick e ≡ None → (time : ℕ) → e ≢ event.Tick time
-is_no_tick e none time is = let neither : None ≡ Some time = sym none ∙ ap minute_of_tick is in (let no : ⊥ = cc in no)
+pub is_no_tick : (e : Event) → tick_minute e ≡ None → (time : ℕ) → e ≢ event.Tick time
+is_no_tick e none time is = let neither : None ≡ Some time = sym none ∙ ap tick_minute is in (let no : ⊥ = cc in no)
 
 -- an event that is no tick is given nothing
-pub no_tick : (events : List Event) (e : Event) → minute_of_tick e ≡ None → GivesAnswer (events ++ e ∷ []) None
+pub no_tick : (events : List Event) (e : Event) → tick_minute e ≡ None → GivesAnswer (events ++ e ∷ []) None
 no_tick events e none time (first, at) =
     let same : Some e ≡ Some (event.Tick time) = sym (at_last events e) ∙ at in
-    let minute : minute_of_tick e ≡ Some time = ap minute_at same in
+    let minute : tick_minute e ≡ Some time = ap minute_at same in
     let neither : None ≡ Some time = sym none ∙ minute in
     absurd (let no : ⊥ = cc in no)
 
@@ -51,7 +52,7 @@ no_event time (first, at) = omega (arith, first)
 abbrev pub IsEither : List Event → Event → Option TickAnswer → Type 0
 IsEither events e answer =
     ((time : ℕ) × (a : TickAnswer) × (e ≡ event.Tick time) × (answer ≡ Some a) × IsAnswerNext events time a)
-    ⊎ ((minute_of_tick e ≡ None) × (answer ≡ None))
+    ⊎ ((tick_minute e ≡ None) × (answer ≡ None))
 
 -- which of the two it is
 pub either : (events : List Event) (e : Event) (answer : Option TickAnswer) → IsStepAnswer events e answer → IsEither events e answer
@@ -86,10 +87,10 @@ Gives events e time a = IsAnsweredLast (events ++ e ∷ []) (record {
   answer = a;
 })
 
-tick_answered : (events : List Event) (e : Event) (time : ℕ) (a : TickAnswer) (answer : Option TickAnswer) → minute_of_tick e ≡ Some time
+tick_answered : (events : List Event) (e : Event) (time : ℕ) (a : TickAnswer) (answer : Option TickAnswer) → tick_minute e ≡ Some time
     → answer ≡ Some a → IsEither events e answer → Gives events e time a
 tick_answered events e time a answer minute is (inl (t, b, tick, same, h)) =
-    let times : Some t ≡ Some time = sym (ap minute_of_tick tick) ∙ minute in
+    let times : Some t ≡ Some time = sym (ap tick_minute tick) ∙ minute in
     let times_one : t ≡ time = cc in
     let answers : Some b ≡ Some a = sym same ∙ is in
     let answers_one : b ≡ a = cc in
@@ -100,19 +101,19 @@ tick_answered events e time a answer minute is (inr (none, same)) =
     let neither : None ≡ Some time = sym none ∙ minute in absurd (let no : ⊥ = cc in no)
 
 -- a tick is given its answer
-pub is_answered : (events : List Event) (e : Event) (time : ℕ) (a : TickAnswer) (answer : Option TickAnswer) → minute_of_tick e ≡ Some time
+pub is_answered : (events : List Event) (e : Event) (time : ℕ) (a : TickAnswer) (answer : Option TickAnswer) → tick_minute e ≡ Some time
     → answer ≡ Some a → IsStepAnswer events e answer → Gives events e time a
 is_answered events e time a answer minute is h = tick_answered events e time a answer minute is (either events e answer h)
 
 -- and never none
-unanswered : (events : List Event) (e : Event) (time : ℕ) (answer : Option TickAnswer) → minute_of_tick e ≡ Some time → answer ≡ None
+unanswered : (events : List Event) (e : Event) (time : ℕ) (answer : Option TickAnswer) → tick_minute e ≡ Some time → answer ≡ None
     → IsEither events e answer → ⊥
 unanswered events e time answer minute is (inl (t, b, tick, same, h)) =
     let neither : None ≡ Some b = sym is ∙ same in (let no : ⊥ = cc in no)
 unanswered events e time answer minute is (inr (none, same)) =
     let neither : None ≡ Some time = sym none ∙ minute in (let no : ⊥ = cc in no)
 
-pub never_unanswered : (events : List Event) (e : Event) (time : ℕ) (answer : Option TickAnswer) → minute_of_tick e ≡ Some time → answer ≡ None
+pub never_unanswered : (events : List Event) (e : Event) (time : ℕ) (answer : Option TickAnswer) → tick_minute e ≡ Some time → answer ≡ None
     → IsStepAnswer events e answer → ⊥
 never_unanswered events e time answer minute is h = unanswered events e time answer minute is (either events e answer h)
 

@@ -12,7 +12,7 @@ use Rattle.vx_drivers.specs.declared.exit.Exit.TheVariants.{Done, SaidNo, Usage,
 use Rattle.vx_drivers.specs.CertificateExits.{IsCertificateExit}
 use Rattle.vx_drivers.specs.CertificateRun.{certificates_of}
 use Rattle.vx_drivers.specs.Exits.{IsWithoutNoMemory, is_cut}
-use Rattle.vx_drivers.specs.Held.{Held, held_by}
+use Rattle.vx_drivers.specs.Held.{Held, held_in}
 use Rattle.vx_drivers.specs.Sending.{Sent, Text}
 use Rattle.vx_drivers.proofs.ExitLemmas.{certs_not_feed, feed_not_side, out_not_feed, out_not_side, side_not_feed}
 use Rattle.vx_drivers.proofs.RunLemmas.{both_none}
@@ -166,7 +166,7 @@ module _ (feed certs : Text) (holds : List ℕ → Option (List ℕ)) (before : 
     module _ (other : List ℕ → Option (List ℕ)) (same_names : other ≡ holds) (two : Slot → Told)
         (certs_opened : IsOpened Side certs (other certs) (one Side) (two Side)) (certs_only : ChangesOnly Side one two) where
       -- what the two files held at first is what their names hold
-      held_left : held_by two ≡ record { feed = holds feed; side = holds certs }
+      held_left : held_in two ≡ record { feed = holds feed; side = holds certs }
       held_left =
           let feed_is : (two Feed).left ≡ holds feed = ap (λ (t : Told). t.left) (certs_only Feed (feed_not_side Side refl)) ∙ (feed_opened.to_read tt).0 in
           let side_is : (two Side).left ≡ holds certs = (certs_opened.to_read tt).0 ∙ ap (λ h. h certs) same_names in
@@ -183,7 +183,7 @@ module _ (feed certs : Text) (holds : List ℕ → Option (List ℕ)) (before : 
             text = ended.text;
             sent = subst (λ (t : Told). Sent ended.text t (after Out)) out_left ended.sent;
             runs = ended.runs;
-            cut = λ is. subst (λ (b : Bool). ChecksLinesRead (held_by two) after exit ended.text b) (sym open_now) (ended.cut is);
+            cut = λ is. subst (λ (b : Bool). ChecksLinesRead (held_in two) after exit ended.text b) (sym open_now) (ended.cut is);
           })
 
       pub files_open : (after : Slot → Told) (exit : Exit) → IsCertificateExit exit → KeepsSlots two after → OpensToCheck feed certs after exit

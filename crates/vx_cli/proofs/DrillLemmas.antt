@@ -14,9 +14,10 @@ use Rattle.vx_feed.specs.declared.events.Event.{Event}
 use Rattle.vx_feed.specs.declared.events.Event.TheVariants as event
 use Rattle.vx_feed.specs.declared.limits.TheConstants.{LINES_MAX}
 use Rattle.vx_feed.specs.Listed.{header_day}
-use Rattle.vx_feed.specs.Order.{IsLawfulNext, has_too_many_expiries, has_too_many_strikes}
+use Rattle.vx_feed.specs.Order.{IsLawfulNext, has_too_many_expiries, has_too_many_strikes, tick_minute}
 use Rattle.vx_feed.specs.Said.{first_said}
 use Rattle.vx_feed.proofs.NoCauses.{no_causes}
+use Rattle.vx_feed.specs.Written.{count_text}
 use Rattle.vx_claims.specs.Seen.{events_before, moment_of}
 use Rattle.vx_replay.specs.declared.answer.TickAnswer.{TickAnswer}
 use Rattle.vx_replay.specs.declared.answer.TickAnswer.TheVariants.{Published, UndecidedCents, UndecidedForward, Refused}
@@ -24,8 +25,7 @@ use Rattle.vx_replay.specs.Stepped.{IsAnswerNext, IsStepAnswer}
 use Rattle.vx_replay.specs.Ticks.{IsAnswerAfter, IsIndexAnswer, IsTickAnswer}
 use Rattle.vx_cli.specs.declared.drill.AnswerCounts.{AnswerCounts}
 use Rattle.vx_cli.specs.DrillRuns.{AnswersAreFew, HasCounted, answers_of_counts, drill_line, no_counts, one_of}
-use Rattle.vx_cli.specs.OutputLines.{count_text, line_of}
-use Rattle.vx_cli.specs.ReplayRuns.{minute_of_tick}
+use Rattle.vx_cli.specs.OutputLines.{line_of}
 use Rattle.vx_cli.specs.ReplayText.{Answered, AnswerTicks, Tick, count_answers, is_published, is_refused, is_undecided, tally_of, ticks_from, ticks_of}
 use Rattle.vx_cli.proofs.AnswerLemmas.{IsEither, either}
 
@@ -64,7 +64,7 @@ abbrev pub tick_at : ℕ → Option ℕ → List Tick
 tick_at line None = []
 tick_at line (Some time) = record { line = line; time = time } ∷ []
 
-pub first_tick : (line : ℕ) (e : Event) (events : List Event) → ticks_from line (e ∷ events) ≡ tick_at line (minute_of_tick e) ++ ticks_from (line + 1) events
+pub first_tick : (line : ℕ) (e : Event) (events : List Event) → ticks_from line (e ∷ events) ≡ tick_at line (tick_minute e) ++ ticks_from (line + 1) events
 first_tick line (event.Tick time) events = refl
 first_tick line (event.Header day) events = refl
 first_tick line (event.Expiry x) events = refl
@@ -75,16 +75,16 @@ first_tick line (event.Trade time s price) events = refl
 first_tick line (event.Opening time) events = refl
 first_tick line (event.End count) events = refl
 
-pub last_tick : (line : ℕ) (events : List Event) (e : Event) → ticks_from line (events ++ e ∷ []) ≡ ticks_from line events ++ tick_at (line + length events) (minute_of_tick e)
-last_tick line [] e = first_tick line e [] ∙ append-nil (tick_at line (minute_of_tick e)) ∙ ap (λ (n : ℕ). tick_at n (minute_of_tick e)) (sym (add-zero line))
+pub last_tick : (line : ℕ) (events : List Event) (e : Event) → ticks_from line (events ++ e ∷ []) ≡ ticks_from line events ++ tick_at (line + length events) (tick_minute e)
+last_tick line [] e = first_tick line e [] ∙ append-nil (tick_at line (tick_minute e)) ∙ ap (λ (n : ℕ). tick_at n (tick_minute e)) (sym (add-zero line))
 last_tick line (d ∷ events) e =
     let later : (line + 1) + length events ≡ line + length (d ∷ events) = omega arith in
-    let head : List Tick = tick_at line (minute_of_tick d) in
+    let head : List Tick = tick_at line (tick_minute d) in
     let rest : List Tick = ticks_from (line + 1) events in
     first_tick line d (events ++ e ∷ [])
-    ∙ ap (λ (ticks : List Tick). head ++ ticks) (last_tick (line + 1) events e ∙ ap (λ (n : ℕ). rest ++ tick_at n (minute_of_tick e)) later)
-    ∙ sym (append_assoc head rest (tick_at (line + length (d ∷ events)) (minute_of_tick e)))
-    ∙ ap (λ (ticks : List Tick). ticks ++ tick_at (line + length (d ∷ events)) (minute_of_tick e)) (sym (first_tick line d events))
+    ∙ ap (λ (ticks : List Tick). head ++ ticks) (last_tick (line + 1) events e ∙ ap (λ (n : ℕ). rest ++ tick_at n (tick_minute e)) later)
+    ∙ sym (append_assoc head rest (tick_at (line + length (d ∷ events)) (tick_minute e)))
+    ∙ ap (λ (ticks : List Tick). ticks ++ tick_at (line + length (d ∷ events)) (tick_minute e)) (sym (first_tick line d events))
 
 -- no line has more than one tick
 few_at : (line : ℕ) (minute : Option ℕ) → length (tick_at line minute) ≤ 1
@@ -95,9 +95,9 @@ few_ticks : (line : ℕ) (events : List Event) → length (ticks_from line event
 few_ticks line [] = omega arith
 few_ticks line (e ∷ events) =
     let more = few_ticks (line + 1) events in
-    let one = few_at line (minute_of_tick e) in
-    let parts : length (ticks_from line (e ∷ events)) ≡ length (tick_at line (minute_of_tick e)) + length (ticks_from (line + 1) events) =
-    ap (λ (ticks : List Tick). length ticks) (first_tick line e events) ∙ length-append (tick_at line (minute_of_tick e)) (ticks_from (line + 1) events) in
+    let one = few_at line (tick_minute e) in
+    let parts : length (ticks_from line (e ∷ events)) ≡ length (tick_at line (tick_minute e)) + length (ticks_from (line + 1) events) =
+    ap (λ (ticks : List Tick). length ticks) (first_tick line e events) ∙ length-append (tick_at line (tick_minute e)) (ticks_from (line + 1) events) in
     omega (arith, more, one, parts)
 
 -- ---- the answers of one line more
@@ -111,7 +111,7 @@ all_kept events more answers h =
     (λ a is. answer_kept INDEX_DAYS INDEX_WINDOW events more a.tick.line a.tick.time a.answer is) answers h
 
 -- a line that is no tick has no answer
-quiet_line : (events : List Event) (e : Event) (answers : List Answered) → minute_of_tick e ≡ None
+quiet_line : (events : List Event) (e : Event) (answers : List Answered) → tick_minute e ≡ None
     → AnswerTicks INDEX_DAYS INDEX_WINDOW events answers → AnswerTicks INDEX_DAYS INDEX_WINDOW (events ++ e ∷ []) answers
 quiet_line events e answers none h =
     let ticks : ticks_of (events ++ e ∷ []) ≡ ticks_of events =
@@ -185,7 +185,7 @@ pub counts_more : (events : List Event) (e : Event) (answer : Option TickAnswer)
 counts_more events e answer old new is more h = counts_either events e answer old new (either events e answer is) more h
 
 -- and so is one that is no tick
-pub counts_quiet : (events : List Event) (e : Event) (old new : AnswerCounts) → minute_of_tick e ≡ None → CountsMore old new None
+pub counts_quiet : (events : List Event) (e : Event) (old new : AnswerCounts) → tick_minute e ≡ None → CountsMore old new None
     → HasCounted events old → HasCounted (events ++ e ∷ []) new
 counts_quiet events e old new none more h = counts_either events e None old new (inr (none, refl)) more h
 

@@ -19,7 +19,8 @@ use Rattle.vx_drivers.specs.Sending.{Text}
 use Rattle.vx_drivers.specs.TickRun.{CutsTicks, EndsTicks, RunsTicks, RunsTicksIf, TakesEvent, TickStand, certificates_text, counts_text, lines_text, no_events, one_more, unless_bad}
 use Rattle.vx_drivers.proofs.TickLemmas.{texts_more}
 use Rattle.vx_cli.specs.Headline.{IsTrueTick, ReplaysTruly}
-use Rattle.vx_cli.specs.ReplayRuns.{GivesAnswer, IsAnsweredLast, minute_of_tick, replay_rules}
+use Rattle.vx_cli.specs.ReplayRuns.{GivesAnswer, IsAnsweredLast, replay_rules}
+use Rattle.vx_feed.specs.Order.{tick_minute}
 use Rattle.vx_cli.specs.ReplayText.{Answered, Tick, ticks_from, ticks_of}
 use Rattle.vx_cli.proofs.AnswerLemmas.{at_last, minute_at}
 use Rattle.vx_cli.proofs.DrillLemmas.{first_tick, last_tick, tick_at}
@@ -35,7 +36,7 @@ ticks_more : (line : ℕ) (xs ys : List Event) → ticks_from line (xs ++ ys) �
 ticks_more line [] ys = ap (λ (n : ℕ). ticks_from n ys) (sym (add-zero line))
 ticks_more line (x ∷ xs) ys =
     let later : (line + 1) + length xs ≡ line + length (x ∷ xs) = omega arith in
-    let head : List Tick = tick_at line (minute_of_tick x) in
+    let head : List Tick = tick_at line (tick_minute x) in
     first_tick line x (xs ++ ys)
     ∙ ap (λ (ticks : List Tick). head ++ ticks) (ticks_more (line + 1) xs ys)
     ∙ ap (λ (n : ℕ). head ++ (ticks_from (line + 1) xs ++ ticks_from n ys)) later
@@ -48,7 +49,7 @@ length_one_more events e =
     omega (arith, more)
 
 -- what is answered is a tick
-answered_is_tick : (events : List Event) (e : Event) (a : Answered) → IsAnsweredLast (events ++ e ∷ []) a → minute_of_tick e ≡ Some a.tick.time
+answered_is_tick : (events : List Event) (e : Event) (a : Answered) → IsAnsweredLast (events ++ e ∷ []) a → tick_minute e ≡ Some a.tick.time
 answered_is_tick events e a h =
     let at = h.is_answer.is_tick.1 in
     let there : Some e ≡ Some (event.Tick a.tick.time) =
@@ -56,7 +57,7 @@ answered_is_tick events e a h =
     ap minute_at there
 
 -- what is given nothing is no tick
-unanswered_is_none : (events : List Event) (e : Event) → GivesAnswer (events ++ e ∷ []) None → minute_of_tick e ≡ None
+unanswered_is_none : (events : List Event) (e : Event) → GivesAnswer (events ++ e ∷ []) None → tick_minute e ≡ None
 unanswered_is_none events (event.Tick time) none =
     let one = length_one_more events (event.Tick time) in
     absurd (none time (omega (arith, one), at_last events (event.Tick time)))

@@ -39,6 +39,7 @@ use Rattle.vx_cli.specs.OutputLines.{cents_text}
 use Rattle.vx_cli.specs.ReadBack.{CertificateIsRead, IsReadFromLine}
 use Rattle.vx_cli.specs.ReplayRuns.{GivesWritten, replay_rules, tally_of_answer}
 use Rattle.vx_cli.specs.ReplayText.{Answered, certified_text}
+use Rattle.vx_drivers.proofs.AlongLemmas.{along_more}
 use Rattle.vx_cli.proofs.CheckIsOne.{just_checks}
 use Rattle.vx_cli.proofs.PublishedMeans.{published_means}
 
@@ -150,12 +151,6 @@ published_verdict events line time cents lo hi c h =
 
 -- ---- the run over the certificates
 
--- a step more along a list
-step_more : {A S : Type 0} (Step : S → A → S → Type 0) (first : S) (xs : List A) (x : A) (between last : S) → Along Step first xs between
-    → Step between x last → Along Step first (xs ++ x ∷ []) last
-step_more Step first [] x between last h step = (last, subst (λ s. Step s x last) h step, refl)
-step_more Step first (y ∷ xs) x between last (next, h, more) step = (next, h, step_more Step next xs x between last more step)
-
 -- a feed without a bad line meets none
 pub not_met : (number : ℕ) (feed : Reading) → feed.bad ≡ None → is_met number feed ≡ false
 not_met number feed none = ap (λ bad. option_map_or (λ (b : BadLine). nat_le b.line number) bad false) none
@@ -201,7 +196,7 @@ module _ (feed : Reading) (none : feed.bad ≡ None) (before : List Event) (e : 
         within = omega (arith, named);
         are_lines = All-append (IsLine CERT_LINE_LEN_MAX) lines (certificate_line c ∷ []) old.are_lines
             (All-cons (IsLine CERT_LINE_LEN_MAX) (certificate_line c) [] (readable (certificate_line c) back.is_line) (All-nil (IsLine CERT_LINE_LEN_MAX)));
-        steps = step_more (Answers check_rules feed) start lines (certificate_line c) stand new old.steps step;
+        steps = along_more (Answers check_rules feed) start lines (certificate_line c) stand new old.steps step;
       }
 
   -- nothing is written, and nothing to be answered

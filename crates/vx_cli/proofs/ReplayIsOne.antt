@@ -6,12 +6,13 @@ use Rattle.std.proofs.lemmas.List.Elements.{All-head, All-tail}
 use Rattle.vx_clock.specs.declared.limits.TheConstants.{INDEX_DAYS, INDEX_WINDOW}
 use Rattle.vx_feed.specs.declared.events.Event.{Event}
 use Rattle.vx_feed.specs.Feed.{reading_of}
+use Rattle.vx_feed.specs.Written.{count_text}
 use Rattle.vx_make.specs.Feed.{make_events}
 use Rattle.vx_replay.specs.Ticks.{IsTickAnswer}
 use Rattle.vx_drivers.proofs.TickLawLemmas.{run_is_one}
 use Rattle.vx_replay.proofs.TickAnswerIsOne.{tick_answer_is_one}
 use Rattle.vx_drivers.specs.Sending.{Text}
-use Rattle.vx_cli.specs.OutputLines.{line_of, count_text}
+use Rattle.vx_cli.specs.OutputLines.{line_of}
 use Rattle.vx_cli.specs.Laws.{ReplayIsOne}
 use Rattle.vx_cli.specs.ReplayLaws.{gives_one}
 use Rattle.vx_cli.specs.ReplayRuns.{replay_rules}

@@ -81,6 +81,12 @@ sent_open : (is_open : Bool) (text : Text) (before after : Told) → IsTrue is_o
 sent_open true text before after there sent = sent
 sent_open false text before after there sent = absurd (let no : ⊥ = cc in no)
 
+-- a text that is sent to a slot behind its opening, where it is open still
+pub sent_since_opening : (text : Text) (before opened after : Told) → opened.sent ≡ option_map (λ bytes. []) before.sent → IsTrue after.is_open
+    → Sent text opened after → SentIfOpen after.is_open text before after
+sent_since_opening text before opened after nothing there sent =
+    sent_open after.is_open text before after there (sent ∙ ap (λ known. append_known known text) nothing ∙ begun before.sent text)
+
 -- what is sent over files that are open is sent over the bytes that the feed's name holds
 pub files_replayed : (held : Option (List ℕ)) (before opened after : Slot → Told) (exit : Exit) → (opened Feed).left ≡ held
     → opened Out ≡ before Out → (opened Certs).sent ≡ option_map (λ bytes. []) (before Certs).sent
@@ -94,7 +100,6 @@ files_replayed held before opened after exit feed_left out_same nothing there re
       certs = ended.certs;
       runs = ended.runs;
       out_sent = subst (λ (t : Told). Sent ended.out t (after Out)) out_same ended.out_sent;
-      certs_sent = sent_open (after Certs).is_open ended.certs (before Certs) (after Certs) there
-          (ended.certs_sent ∙ ap (λ sent. append_known sent ended.certs) nothing ∙ begun (before Certs).sent ended.certs);
+      certs_sent = sent_since_opening ended.certs (before Certs) (opened Certs) (after Certs) nothing there ended.certs_sent;
       cut = λ is. subst (λ (b : Bool). ReplaysEventsRead held after exit ended.out ended.certs b) (sym there) (ended.cut is);
     }

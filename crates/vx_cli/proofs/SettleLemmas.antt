@@ -1,7 +1,6 @@
 -- A run of `settle` that is cut off before it sends, and its exits.
-use Rattle.std.proofs.Common.{◌≡◌, ◌∙◌, sym, ap, subst, refl, inl, ℕ, true, false, Bool, List, [], Option, Some, None, IfSome}
+use Rattle.std.proofs.Common.{◌≡◌, sym, subst, refl, inl, ℕ, true, false, Bool, List, [], Option, Some, None, IfSome}
 use Rattle.std.specs.Prelude.{IsTrue, option_map}
-use Rattle.std.specs.Io.KnownBytes.{append_known}
 use Rattle.vx_lines.specs.TextLines.{TextLines, at_end, ended}
 use Rattle.vx_desk.specs.declared.device.Slot.{Slot}
 use Rattle.vx_desk.specs.declared.device.Slot.TheVariants.{Feed, Side, Out, Certs}
@@ -22,6 +21,7 @@ use Rattle.vx_drivers.specs.Sending.{Sent, Text}
 use Rattle.vx_drivers.proofs.SendingLemmas.{sent_none}
 use Rattle.vx_cli.specs.Runs.{HasSettled, IsSettleExit, SentIfOpen, SettlesOpen, SettlesWhatWasRead}
 use Rattle.vx_cli.specs.SettleRuns.{settle_rules}
+use Rattle.vx_cli.proofs.ReplayLemmas.{sent_since_opening}
 
 some_feed : (feed : Option Reading) → (over : Reading) × Says feed over
 some_feed None = (all_good [], tt)
@@ -74,16 +74,7 @@ settle_without (BadCerts line cause) h = tt
 
 -- ---- all files are open
 
-begun : (sent : Option (List ℕ)) (text : Text) → append_known (option_map (λ bytes. []) sent) text ≡ option_map (λ bytes. text) sent
-begun None text = refl
-begun (Some bytes) text = refl
-
-sent_open : (is_open : Bool) (text : Text) (before after : Told) → IsTrue is_open → after.sent ≡ option_map (λ bytes. text) before.sent
-    → SentIfOpen is_open text before after
-sent_open true text before after there sent = sent
-sent_open false text before after there sent = absurd (let no : ⊥ = cc in no)
-
--- and what is sent is what the lines give that were read
+-- what is sent is what the lines give that were read
 read_open : (held : Held) (after : Slot → Told) (exit : Exit) (out certs : Text) (is_open : Bool) → IsTrue is_open
     → SettlesNothingOrRead settle_rules held (option_map reading_of held.feed) (option_map positions_of held.side) after exit out certs
     → SettlesWhatWasRead held after exit out certs is_open
@@ -104,8 +95,7 @@ files_settled feed positions before opened after exit feed_left side_left out_sa
   certs = ended.certs;
   runs = ended.runs;
   out_sent = subst (λ (t : Told). Sent ended.out t (after Out)) out_same ended.out_sent;
-  certs_sent = sent_open (after Certs).is_open ended.certs (before Certs) (after Certs) there
-      (ended.certs_sent ∙ ap (λ sent. append_known sent ended.certs) nothing ∙ begun (before Certs).sent ended.certs);
+  certs_sent = sent_since_opening ended.certs (before Certs) (opened Certs) (after Certs) nothing there ended.certs_sent;
   cut = λ cut. read_open (record { feed = feed; side = positions }) after exit ended.out ended.certs (after Certs).is_open there
       (subst (λ (left : Option (List ℕ)). AllRead left positions) feed_left
       (subst (λ (left : Option (List ℕ)). AllRead (opened Feed).left left) side_left (ended.cut cut)));

@@ -16,11 +16,11 @@ use Rattle.vx_soq.specs.declared.answer.OpeningAnswer.{OpeningAnswer}
 use Rattle.vx_soq.specs.declared.answer.OpeningAnswer.TheVariants.{Published, Refused, UndecidedForward, UndecidedCents}
 use Rattle.vx_soq.specs.Openings.{IsOpeningAnswer}
 use Rattle.vx_soq.specs.Lawful.{IsLawfulOpening}
-use Rattle.vx_soq.specs.Written.{CanBeWritten}
+use Rattle.vx_soq.specs.Written.{IsWritable}
 use Rattle.vx_settle.specs.declared.position.Position.{Position}
 use Rattle.vx_settle.specs.declared.fault.PositionFault.{PositionFault}
 use Rattle.vx_settle.specs.declared.fault.PositionFault.TheVariants as fault
-use Rattle.vx_settle.specs.Amount.{IsAmount, total_of}
+use Rattle.vx_settle.specs.Amount.{IsAmount, sum_of_amounts}
 use Rattle.vx_fields.specs.Lines.{field}
 use Rattle.vx_settle.specs.declared.position.Contract.{Contract}
 use Rattle.vx_settle.specs.Form.{contract_of_text, last_of_text, position_of_fields, position_of_line, position_of_parts, position_unless, quantity_of_text}
@@ -53,9 +53,9 @@ first_sum a = omega (arith, ints)
 regroup : (x rest a : ℤ) → x +ℤ (rest +ℤ a) ≡ (x +ℤ rest) +ℤ a
 regroup x rest a = omega (arith, ints)
 
-total_more : (amounts : List ℤ) (a : ℤ) → total_of (amounts ++ a ∷ []) ≡ total_of amounts +ℤ a
+total_more : (amounts : List ℤ) (a : ℤ) → sum_of_amounts (amounts ++ a ∷ []) ≡ sum_of_amounts amounts +ℤ a
 total_more [] a = first_sum a
-total_more (x ∷ amounts) a = ap (λ t. x +ℤ t) (total_more amounts a) ∙ regroup x (total_of amounts) a
+total_more (x ∷ amounts) a = ap (λ t. x +ℤ t) (total_more amounts a) ∙ regroup x (sum_of_amounts amounts) a
 
 amounts_more : (items : List (Option Settled)) (s : Settled) → amounts_of (items ++ Some s ∷ []) ≡ amounts_of items ++ s.amount ∷ []
 amounts_more [] s = refl
@@ -89,7 +89,7 @@ settled_more old new a items s figure h some same total within =
     record {
       figure_is = same ∙ h.figure_is;
       in_range = subst (λ o. IfSome o (λ cents. cents ≤ CENTS_MAX)) (sym same) h.in_range;
-      total_is = total ∙ ap (λ t. t +ℤ s.amount) h.total_is ∙ sym (total_more (amounts_of items) s.amount) ∙ sym (ap total_of (amounts_more items s));
+      total_is = total ∙ ap (λ t. t +ℤ s.amount) h.total_is ∙ sym (total_more (amounts_of items) s.amount) ∙ sym (ap sum_of_amounts (amounts_more items s));
       bound = omega (arith, both, size, bound, total_size, within);
       as_many = subst (λ o. IfSome o (λ cents. length (amounts_of (items ++ Some s ∷ [])) ≡ length (items ++ Some s ∷ []))) (sym (same ∙ some)) count;
     }
@@ -103,7 +103,7 @@ nothing_more sheet a items h none =
     record {
       figure_is = h.figure_is;
       in_range = h.in_range;
-      total_is = h.total_is ∙ sym (ap total_of (amounts_none items));
+      total_is = h.total_is ∙ sym (ap sum_of_amounts (amounts_none items));
       bound = omega (arith, size, bound);
       as_many = subst (λ o. IfSome o (λ cents. length (amounts_of (items ++ None ∷ [])) ≡ length (items ++ None ∷ []))) (sym none) tt;
     }
@@ -152,7 +152,7 @@ cents_of_body (K0 expiry pair k0) cents lo hi states within = elim states [ ]
 cents_of_body (Single term figure) cents lo hi states within = elim states [ ]
 cents_of_body (Index days near next figure) cents lo hi states within = elim states [ ]
 
-cents_in_range : (events : List Event) (answer : OpeningAnswer) → IsLawfulOpening events answer → CanBeWritten answer
+cents_in_range : (events : List Event) (answer : OpeningAnswer) → IsLawfulOpening events answer → IsWritable answer
     → IfSome (figure_of answer) (λ cents. cents ≤ CENTS_MAX)
 cents_in_range events (Published figure) (time, publishes) written =
     cents_of_body figure.certificate.body figure.cents figure.lo figure.hi publishes.states written.body
@@ -166,7 +166,7 @@ none_yet (Some cents) = refl
 
 -- the opening is answered, and no position is settled yet
 pub sheet_opened : (events : List Event) (answer : OpeningAnswer) (time : Option ℕ) (certificate line : Text) (sheet : Settlement)
-    → time ≡ opening_time events → IsOpeningAnswer events answer → IsLawfulOpening events answer → CanBeWritten answer
+    → time ≡ opening_time events → IsOpeningAnswer events answer → IsLawfulOpening events answer → IsWritable answer
     → OpeningCertificateIsRead answer → certificate ≡ opening_certificate_text answer → line ≡ opening_text (opening_clock time) answer
     → sheet.figure ≡ figure_of answer → sheet.total ≡ pos 0
     → OpensSheet settle_rules HasSettledOn events certificate line sheet

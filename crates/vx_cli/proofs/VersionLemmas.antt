@@ -9,8 +9,8 @@ use Rattle.vx_cert.specs.declared.certificate.Certificate.{Certificate}
 use Rattle.vx_cert.specs.declared.fault.CertFault.{CertFault}
 use Rattle.vx_cert.specs.declared.fault.CertFault.TheVariants.{Field}
 use Rattle.vx_cert.specs.declared.limits.TheConstants.{LINE_MAX, VERSION_MIN, VERSION_MAX}
-use Rattle.vx_cert.specs.Form.{at, kind_of, time_of, whole_of}
-use Rattle.vx_cert.specs.Reading.{ReadsAs, body_of, field, with}
+use Rattle.vx_cert.specs.Form.{at, kind_in, time_in, whole_in}
+use Rattle.vx_cert.specs.Reading.{ReadsAs, body_of, field_in, with}
 use Rattle.vx_claims.specs.Accepts.{IsVersion}
 
 -- whatever is read of this kind has this version
@@ -57,9 +57,9 @@ found (Some x) n version is = let same : x ≡ version = cc in ap (λ (y : ℕ).
 
 pub read_has_version : (line : List ℕ) (c : Certificate) → ReadsAs line (Ok c) → IsVersion c.v
 read_has_version line c (d, value, read) =
-    with_range (field 1 (codes "v") (whole_of VERSION_MIN VERSION_MAX) d) _
-    (λ version is. at_in_limits (whole_of VERSION_MIN VERSION_MAX) (get (codes "v") d) version (λ e whole. whole_in_limits (option_and_then as_u64 (as_number e)) version whole)
-    (found (at (codes "v") (whole_of VERSION_MIN VERSION_MAX) d) 1 version is))
-    (λ version. with_version version (field 2 (codes "kind") kind_of d) _ (λ named. with_version version (field 3 (codes "line") (whole_of 1 LINE_MAX) d) _ (λ number.
-    with_version version (field 4 (codes "time") time_of d) _ (λ minute. with_version version (body_of named d) _ (λ said.
+    with_range (field_in 1 (codes "v") (whole_in VERSION_MIN VERSION_MAX) d) _
+    (λ version is. at_in_limits (whole_in VERSION_MIN VERSION_MAX) (get (codes "v") d) version (λ e whole. whole_in_limits (option_and_then as_u64 (as_number e)) version whole)
+    (found (at (codes "v") (whole_in VERSION_MIN VERSION_MAX) d) 1 version is))
+    (λ version. with_version version (field_in 2 (codes "kind") kind_in d) _ (λ named. with_version version (field_in 3 (codes "line") (whole_in 1 LINE_MAX) d) _ (λ number.
+    with_version version (field_in 4 (codes "time") time_in d) _ (λ minute. with_version version (body_of named d) _ (λ said.
     ok_version version (record { v = version; line = number; time = minute; body = said }) refl))))) c read

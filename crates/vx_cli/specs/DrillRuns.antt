@@ -4,16 +4,17 @@ use Rattle.std.specs.Prelude.{Option, Some, None, Result, Ok, Err}
 use Rattle.vx_clock.specs.declared.limits.TheConstants.{INDEX_DAYS, INDEX_WINDOW}
 use Rattle.vx_feed.specs.declared.events.Event.{Event}
 use Rattle.vx_feed.specs.Feed.{bad_line, lawful_prefix}
+use Rattle.vx_feed.specs.Written.{count_text}
 use Rattle.vx_reading.specs.declared.stop.FeedStop.{FeedStop}
 use Rattle.vx_reading.specs.declared.stop.FeedStop.TheVariants.{BadLine, Device, NoMemory}
 use Rattle.vx_reading.specs.Stops.{bad_cause}
 use Rattle.vx_replay.specs.declared.answer.TickAnswer.{TickAnswer}
 use Rattle.vx_replay.specs.declared.replay.Replay.{Replay}
-use Rattle.vx_replay.specs.StandsFor.{StandsFor}
+use Rattle.vx_replay.specs.StandsFor.{ReplayStandsFor}
 use Rattle.vx_cli.specs.declared.drill.AnswerCounts.{AnswerCounts}
 use Rattle.vx_cli.specs.declared.drill.CountedReplay.{CountedReplay}
 use Rattle.vx_drivers.specs.Sending.{Text}
-use Rattle.vx_cli.specs.OutputLines.{count_text, line_of}
+use Rattle.vx_cli.specs.OutputLines.{line_of}
 use Rattle.vx_cli.specs.ReplayText.{Answered, AnswerTicks, count_answers, is_published, is_refused, is_undecided}
 
 -- the counts before the first line
@@ -44,7 +45,7 @@ pub record HasCounted (events : List Event) (counts : AnswerCounts) : Type 0 whe
 
 -- and the replay stands for these events
 pub record HasCountedAlong (replay : Replay) (counts : AnswerCounts) (events : List Event) : Type 0 where
-  pub stands : StandsFor replay events
+  pub stands : ReplayStandsFor replay events
   pub counted : HasCounted events counts
 
 -- the same of what counts the answers to a feed's ticks

@@ -1,9 +1,10 @@
 -- What `drill` writes: how the ticks of a sample feed are answered. This project's own format.
 use Rattle.std.specs.Prelude.{◌≡◌, ℕ, List, ◌∷◌, length, codes}
 use Rattle.vx_clock.specs.declared.limits.TheConstants.{INDEX_DAYS, INDEX_WINDOW}
+use Rattle.vx_feed.specs.Written.{count_text}
 use Rattle.vx_make.specs.Feed.{make_events}
 use Rattle.vx_drivers.specs.Sending.{Text}
-use Rattle.vx_cli.specs.OutputLines.{line_of, count_text}
+use Rattle.vx_cli.specs.OutputLines.{line_of}
 use Rattle.vx_cli.specs.ReplayText.{Answered, AnswerTicks, tally_of}
 
 -- `DRILL,lines,ticks,published,undecided,refused`, of the sample feed with this number and so many ticks

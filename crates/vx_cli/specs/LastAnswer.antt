@@ -2,7 +2,7 @@
 use Rattle.std.specs.Prelude.{ℕ, List, length, Option, option_map}
 use Rattle.vx_feed.specs.declared.events.Event.{Event}
 use Rattle.vx_replay.specs.declared.replay.Replay.{Replay}
-use Rattle.vx_replay.specs.StandsFor.{StandsFor}
+use Rattle.vx_replay.specs.StandsFor.{ReplayStandsFor}
 use Rattle.vx_cli.specs.declared.replay.TickAnswers.{TickAnswers}
 use Rattle.vx_cli.specs.declared.replay.TimedAnswer.{TimedAnswer}
 use Rattle.vx_cli.specs.ReplayRuns.{GivesAnswer}
@@ -18,7 +18,7 @@ GivesTimed events last = GivesAnswer events (option_map (answered_at (length eve
 
 -- the replay stands for the events, and this is what the last of them is answered
 pub record HasAnsweredLast (replay : Replay) (last : Option TimedAnswer) (events : List Event) : Type 0 where
-  pub stands : StandsFor replay events
+  pub stands : ReplayStandsFor replay events
   pub gives : GivesTimed events last
 
 -- the same of what answers a feed's ticks

@@ -13,10 +13,6 @@ comma_separated (piece ∷ more ∷ pieces) = piece ++ 44 ∷ comma_separated (m
 abbrev pub line_of : List Text → Text
 line_of pieces = comma_separated pieces ++ 10 ∷ []
 
--- a count
-abbrev pub count_text : ℕ → Text
-count_text n = decimal_text n 0
-
 -- a strike in points, of thousandths
 abbrev pub strike_text : ℕ → Text
 strike_text strike = decimal_text strike 3

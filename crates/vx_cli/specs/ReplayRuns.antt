@@ -2,7 +2,6 @@
 use Rattle.std.specs.Prelude.{◌≡◌, ℕ, List, length, Option, Some, None, IfSome}
 use Rattle.vx_clock.specs.declared.limits.TheConstants.{INDEX_DAYS, INDEX_WINDOW}
 use Rattle.vx_feed.specs.declared.events.Event.{Event}
-use Rattle.vx_feed.specs.declared.events.Event.TheVariants as event
 use Rattle.vx_feed.specs.Feed.{reading_of}
 use Rattle.vx_claims.specs.Seen.{IsTickAt}
 use Rattle.vx_drivers.specs.declared.ticks.Tally.{Tally}
@@ -15,11 +14,6 @@ use Rattle.vx_replay.specs.Lawful.{IsLawfulAnswer}
 use Rattle.vx_drivers.specs.Sending.{Text}
 use Rattle.vx_cli.specs.ReadBack.{CertificateIsRead}
 use Rattle.vx_cli.specs.ReplayText.{Answered, certified_text, tick_text}
-
--- the minute of an event that is a tick
-abbrev pub minute_of_tick : Event → Option ℕ
-minute_of_tick (event.Tick time) = Some time
-minute_of_tick _ = None
 
 -- the last of these events is a tick, and this is its answer: the tick function's, and a lawful one
 pub record IsAnsweredLast (events : List Event) (a : Answered) : Type 0 where

@@ -3,6 +3,7 @@ use Rattle.std.specs.Prelude.{◌≡◌, ℕ, ◌+◌, Bool, true, false, List, 
 use Rattle.vx_clock.specs.Clock.{clock_text}
 use Rattle.vx_feed.specs.declared.events.Event.{Event}
 use Rattle.vx_feed.specs.declared.events.Event.TheVariants as event
+use Rattle.vx_feed.specs.Written.{count_text}
 use Rattle.vx_cert.specs.Written.{certificate_text}
 use Rattle.vx_term.specs.declared.answer.TermRefusal.{TermRefusal}
 use Rattle.vx_term.specs.declared.answer.TermRefusal.TheVariants as refusal
@@ -14,7 +15,7 @@ use Rattle.vx_replay.specs.declared.answer.Which.{Which}
 use Rattle.vx_replay.specs.declared.answer.Which.TheVariants.{Near, Next, Both}
 use Rattle.vx_replay.specs.Ticks.{IsTickAnswer}
 use Rattle.vx_drivers.specs.Sending.{Text}
-use Rattle.vx_cli.specs.OutputLines.{line_of, count_text, strike_text, cents_text, index_end_text, forward_end_text}
+use Rattle.vx_cli.specs.OutputLines.{line_of, strike_text, cents_text, index_end_text, forward_end_text}
 
 abbrev pub which_word : Which → Text
 which_word Near = codes "near"

@@ -14,7 +14,7 @@ use Rattle.vx_drivers.specs.CertificateExits.{IsCertificateExit}
 use Rattle.vx_drivers.specs.CertificateRun.{RunsBy, certificates_of}
 use Rattle.vx_drivers.specs.CertificateSteps.{AnswersLinesRead, EndsCertificates, IfBoth}
 use Rattle.vx_drivers.specs.Exits.{is_cut}
-use Rattle.vx_drivers.specs.Held.{Held, held_by}
+use Rattle.vx_drivers.specs.Held.{Held, held_in}
 use Rattle.vx_drivers.specs.PositionExits.{IsPositionExit}
 use Rattle.vx_drivers.specs.PositionRun.{RunsPositionsBy, positions_of}
 use Rattle.vx_drivers.specs.PositionSteps.{HasEndedPositions, SettlesNothingOrRead, positions_told}
@@ -232,7 +232,7 @@ pub record HasSettled (held : Held) (before after : Slot → Told) (exit : Exit)
 -- the same of files that are open
 abbrev pub SettlesOpen : (Slot → Told) → (Slot → Told) → Exit → Type 0
 SettlesOpen before after exit =
-    HasEndedPositions settle_rules (held_by before) (feed_told before) (positions_told before) before after exit
+    HasEndedPositions settle_rules (held_in before) (feed_told before) (positions_told before) before after exit
 
 -- the same over the bytes that the names of the feed and of the positions hold
 abbrev pub SettlesFiles : Text → Text → (List ℕ → Option (List ℕ)) → (Slot → Told) → (Slot → Told) → Exit → Type 0

@@ -2,17 +2,18 @@
 use Rattle.std.specs.Prelude.{ℕ, ℤ, pos, List, [], ◌∷◌, ◌++◌, length, codes, Option, Some, None}
 use Rattle.vx_clock.specs.Clock.{clock_text}
 use Rattle.vx_num.specs.Written.{signed_text}
+use Rattle.vx_feed.specs.Written.{count_text}
 use Rattle.vx_cert.specs.Written.{certificate_text}
 use Rattle.vx_settle.specs.declared.position.Contract.{Contract}
 use Rattle.vx_settle.specs.declared.position.Contract.TheVariants.{Vx, Vxm}
 use Rattle.vx_settle.specs.declared.position.Position.{Position}
-use Rattle.vx_settle.specs.Amount.{total_of}
+use Rattle.vx_settle.specs.Amount.{sum_of_amounts}
 use Rattle.vx_soq.specs.declared.answer.OpeningAnswer.{OpeningAnswer}
 use Rattle.vx_soq.specs.declared.answer.OpeningAnswer.TheVariants.{Published, Refused, UndecidedForward, UndecidedCents}
 use Rattle.vx_soq.specs.declared.answer.SoqReason.{SoqReason}
 use Rattle.vx_soq.specs.declared.answer.SoqReason.TheVariants.{NoOpening, NoTerm, Term, NegativeVariance}
 use Rattle.vx_drivers.specs.Sending.{Text}
-use Rattle.vx_cli.specs.OutputLines.{line_of, count_text, strike_text, cents_text, index_end_text, forward_end_text}
+use Rattle.vx_cli.specs.OutputLines.{line_of, strike_text, cents_text, index_end_text, forward_end_text}
 use Rattle.vx_cli.specs.ReplayText.{refusal_word}
 
 abbrev pub opening_reason_word : SoqReason → Text
@@ -80,7 +81,7 @@ amounts_of (Some s ∷ items) = s.amount ∷ amounts_of items
 -- `TOTAL,amount` and `END,count`
 abbrev pub total_text : List ℤ → Text
 total_text amounts =
-    line_of (codes "TOTAL" ∷ amount_text (total_of amounts) ∷ [])
+    line_of (codes "TOTAL" ∷ amount_text (sum_of_amounts amounts) ∷ [])
     ++ line_of (codes "END" ∷ count_text (length amounts) ∷ [])
 
 -- without a figure the last line counts no position

@@ -25,9 +25,9 @@ struct FeedBook {
 }
 
 impl TakesEvents for FeedBook {
-    ghost use Rattle.vx_check.specs.StandsFor.{StandsFor};
+    ghost use Rattle.vx_check.specs.StandsFor.{PlainStandsFor};
 
-    ghost StandsFor = { λ taker events. StandsFor taker.book events };
+    ghost StandsFor = { λ taker events. PlainStandsFor taker.book events };
 
     fn take(&mut self, event: Event) -> Result<(), NoMemory> {
         self.book.push(event)

@@ -4,10 +4,10 @@ ghost use Rattle.std.specs.Prelude.{◌≡◌, ◌++◌, ◌<◌, ◌≤◌, ◌
 ghost use Rattle.vx_desk.specs.Told.{ChangesOnly, OutIsOpen};
 ghost use Rattle.vx_make.specs.Feed.{make_events};
 ghost use Rattle.vx_desk.specs.Calls.{Failures};
+ghost use Rattle.vx_feed.specs.Written.{count_text};
 ghost use Rattle.vx_drivers.specs.Exits.{exit_calls};
 ghost use Rattle.vx_cli.specs.DrillRuns.{AnswersAreFew, CountsText, HasCounted, drill_line, kinds_line};
 ghost use Rattle.vx_cli.specs.DrillText.{Drills};
-ghost use Rattle.vx_cli.specs.OutputLines.{count_text};
 ghost use Rattle.vx_cli.specs.Runs.{DrillsTo, IsMakeExit};
 
 use crate::replay::tick_minute;
@@ -92,7 +92,7 @@ impl CountedReplay {
     ghost use Rattle.std.specs.Prelude.{◌≡◌, None};
     ghost use Rattle.vx_reading.specs.Takes.{MayTakeUp, KeepsStanding, TakesUp};
     ghost use Rattle.vx_cli.specs.DrillRuns.{CountsStandFor};
-    ghost use Rattle.vx_cli.specs.ReplayRuns.{minute_of_tick};
+    ghost use Rattle.vx_feed.specs.Order.{tick_minute};
 
     /// Takes up an event, and counts what it is answered.
     fn step(&mut self, event: Event) -> Result<(), NoMemory>
@@ -108,7 +108,7 @@ impl CountedReplay {
     /// Takes up an event that is no tick. An answer is large, and none is made here.
     fn take_up(&mut self, event: Event) -> Result<(), NoMemory>
         requires lawful { MayTakeUp CountsStandFor self.old event }
-        requires no_tick { minute_of_tick event ≡ None }
+        requires no_tick { tick_minute event ≡ None }
         ensures taken { TakesUp CountsStandFor self.old event self.new result }
         ensures kept { KeepsStanding CountsStandFor self.old self.new result }
     {

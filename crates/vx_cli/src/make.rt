@@ -15,8 +15,8 @@ use vx_make::SampleFeed;
 use vx_make::limits::{STATES, TICKS_MAX};
 use vx_num::NoMemory;
 
-/// Sends the sample feed piece by piece, so that no more than one tick of it is held. All that can want memory is
-/// done before the first piece is sent.
+/// Sends the sample feed piece by piece, so that no more of it is held than its head, its last line and one tick.
+/// All that can want memory is done before the first piece is sent.
 fn send_pieces<D: Desk>(alloc: Global, desk: &mut D, number: u32, ticks: u32) -> Result<(), Exit>
     requires states { number < STATES }
     requires some { 1 ≤ ticks }

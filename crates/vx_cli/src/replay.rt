@@ -6,7 +6,7 @@ ghost use Rattle.vx_desk.specs.Calls.{Failures, IsStep};
 ghost use Rattle.vx_drivers.specs.Exits.{exit_calls};
 ghost use Rattle.vx_drivers.specs.TickExits.{IsTickExit};
 ghost use Rattle.vx_replay.specs.Joinable.{CanBeWritten};
-ghost use Rattle.vx_cli.specs.ReplayRuns.{minute_of_tick};
+ghost use Rattle.vx_feed.specs.Order.{tick_minute};
 ghost use Rattle.vx_cli.specs.Runs.{IsReplayExit, OpensToReplay, ReplaysFile, ReplaysOpen};
 
 use crate::tick_lines::{push_certificate, push_tick, tally_of};
@@ -36,7 +36,7 @@ struct TickAnswers {
 
 /// The minute of an event that is a tick.
 pub(crate) fn tick_minute(event: Event) -> Option<u16>
-    ensures { result ≡ minute_of_tick event }
+    ensures { result ≡ tick_minute event }
 {
     match event {
         Event::Tick { time } => Some(time),
@@ -89,7 +89,7 @@ impl TickAnswers {
     /// Takes up an event that is no tick. An answer is large, and none is made or moved here.
     fn take_up(&mut self, event: Event) -> Result<(), NoMemory>
         requires lawful { MayTakeUp AnswersStandFor self.old event }
-        requires no_tick { minute_of_tick event ≡ None }
+        requires no_tick { tick_minute event ≡ None }
         ensures taken { TakesUp AnswersStandFor self.old event self.new result }
         ensures kept { KeepsStanding AnswersStandFor self.old self.new result }
     {

@@ -59,9 +59,9 @@ fn opening_minute(book: &Book) -> Option<u16>
 }
 
 impl TakesEvents for OpeningBook {
-    ghost use Rattle.vx_book.specs.StandsFor.{StandsFor};
+    ghost use Rattle.vx_book.specs.StandsFor.{BookStandsFor};
 
-    ghost StandsFor = { λ taker events. StandsFor taker.book events };
+    ghost StandsFor = { λ taker events. BookStandsFor taker.book events };
 
     fn take(&mut self, event: Event) -> Result<(), NoMemory> {
         self.book.apply(&event)

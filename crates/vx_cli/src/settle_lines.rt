@@ -2,8 +2,9 @@
 
 ghost use Rattle.std.specs.Prelude.{◌≡◌, ◌+◌, ◌++◌, ◌≤◌, [], ◌∷◌, codes, drop, OnOk};
 ghost use Rattle.vx_num.specs.Written.{signed_text};
-ghost use Rattle.vx_soq.specs.Written.{CanBeWritten};
-ghost use Rattle.vx_cli.specs.OutputLines.{comma_separated, count_text, line_of};
+ghost use Rattle.vx_feed.specs.Written.{count_text};
+ghost use Rattle.vx_soq.specs.Written.{IsWritable};
+ghost use Rattle.vx_cli.specs.OutputLines.{comma_separated, line_of};
 ghost use Rattle.vx_cli.specs.ReadBack.{OpeningCertificateIsRead};
 ghost use Rattle.vx_cli.specs.SettleText as text;
 
@@ -114,7 +115,7 @@ pub(crate) fn push_opening_certificate(
     line: &mut Vec<u8>,
     answer: &OpeningAnswer,
 ) -> Result<(), NoMemory>
-    requires { CanBeWritten answer.now }
+    requires { IsWritable answer.now }
     ensures text { OnOk result (line.new.items ≡ line.old.items ++ text.opening_certificate_text answer.now) }
     ensures read_back { OnOk result (OpeningCertificateIsRead answer.now) }
 {

@@ -2,7 +2,8 @@
 
 ghost use Rattle.std.specs.Prelude.{◌≡◌, ◌++◌, [], ◌∷◌, codes, OnOk};
 ghost use Rattle.vx_clock.specs.Clock.{clock_text};
-ghost use Rattle.vx_cli.specs.OutputLines.{comma_separated, count_text, forward_end_text, index_end_text, line_of, strike_text};
+ghost use Rattle.vx_feed.specs.Written.{count_text};
+ghost use Rattle.vx_cli.specs.OutputLines.{comma_separated, forward_end_text, index_end_text, line_of, strike_text};
 ghost use Rattle.vx_replay.specs.Joinable.{CanBeWritten};
 ghost use Rattle.vx_cli.specs.ReadBack.{CertificateIsRead};
 ghost use Rattle.vx_cli.specs.ReplayRuns.{tally_of_answer};

@@ -4,12 +4,12 @@ use lib.Signed.{le_z_yes}
 use Rattle.vx_clock.specs.Day.{IsDayInRange}
 use Rattle.vx_feed.specs.Order.{AreLawful}
 use Rattle.vx_days.specs.FeedExamples.{september_17}
-use Rattle.vx_days.specs.OrderExamples.{ended, opened, HeaderAfterEnd, EarlyQuoteAfterEnd, OtherCountAfterEnd, EarlySecondOpening}
+use Rattle.vx_days.specs.OrderExamples.{ended_day, opened, HeaderAfterEnd, EarlyQuoteAfterEnd, OtherCountAfterEnd, EarlySecondOpening}
 
 day_17 : IsDayInRange september_17
 day_17 = (le_z_yes tt, le_z_yes tt)
 
-ended_is_lawful : AreLawful ended
+ended_is_lawful : AreLawful ended_day
 ended_is_lawful = (record { in_range = day_17; in_order = refl }, (record { in_range = omega arith; in_order = refl }, (record { in_range = omega arith; in_order = refl }, tt)))
 
 opened_is_lawful : AreLawful opened

@@ -15,8 +15,8 @@ pub record BothHold (before : List Event) (e : Event) (one other : List Event �
   pub answered : order_fault before e ≡ Some f
 
 -- a day with a tick at 8:30 that has ended
-abbrev pub ended : List Event
-ended = event.Header september_17 ∷ event.Tick 510 ∷ event.End 1 ∷ []
+abbrev pub ended_day : List Event
+ended_day = event.Header september_17 ∷ event.Tick 510 ∷ event.End 1 ∷ []
 
 -- a day whose opening was taken at 8:30
 abbrev pub opened : List Event
@@ -24,15 +24,15 @@ opened = event.Header september_17 ∷ event.Opening 510 ∷ []
 
 -- a second header after the end
 abbrev pub HeaderAfterEnd : Type 0
-HeaderAfterEnd = BothHold ended (event.Header september_17) is_misplaced is_after_end fault.NotFirst
+HeaderAfterEnd = BothHold ended_day (event.Header september_17) is_misplaced is_after_end fault.NotFirst
 
 -- a quote at 8:29 after the end
 abbrev pub EarlyQuoteAfterEnd : Type 0
-EarlyQuoteAfterEnd = BothHold ended (event.Quote 509 (call_at 2000000) 5000 5000) is_after_end is_time_back fault.AfterEnd
+EarlyQuoteAfterEnd = BothHold ended_day (event.Quote 509 (call_at 2000000) 5000 5000) is_after_end is_time_back fault.AfterEnd
 
 -- a second end with another count
 abbrev pub OtherCountAfterEnd : Type 0
-OtherCountAfterEnd = BothHold ended (event.End 1) is_after_end is_other_count fault.AfterEnd
+OtherCountAfterEnd = BothHold ended_day (event.End 1) is_after_end is_other_count fault.AfterEnd
 
 -- a second opening, at 8:29
 abbrev pub EarlySecondOpening : Type 0

@@ -1,5 +1,5 @@
 -- Lemmas on the steps of a run, on its exits, and that it has one text.
-mod AlongLemmas
+pub mod AlongLemmas
 pub mod CauseLemmas
 mod CertificateLemmas
 pub mod ExitLemmas

@@ -6,7 +6,7 @@ use Rattle.vx_desk.specs.declared.device.Slot.{Slot}
 use Rattle.vx_desk.specs.declared.device.Slot.TheVariants.{Side}
 use Rattle.vx_desk.specs.Calls.{read_call}
 use Rattle.vx_desk.specs.Told.{Told}
-use Rattle.vx_settle.specs.Form.{fault_of_unsplit, unsplit_fault}
+use Rattle.vx_settle.specs.Form.{fault_unsplit, unsplit_fault}
 use Rattle.vx_blocks.specs.declared.split_lines.SplitLines.{SplitLines}
 use Rattle.vx_blocks.specs.declared.split_lines.Rest.{Rest}
 use Rattle.vx_blocks.specs.declared.split_lines.Rest.TheVariants.{More, End, Unsplit, TooLong, NoEol}
@@ -27,7 +27,7 @@ use Rattle.vx_drivers.proofs.ExitLemmas.{memory_not_side}
 
 -- a line that can be split has no fault before its fields are looked at
 pub none_unsplit : (line : List ℕ) (fields : List (List ℕ)) → IsSplit line fields → unsplit_fault line ≡ None
-none_unsplit line fields split = ap (option_map fault_of_unsplit) split.can_be
+none_unsplit line fields split = ap (option_map fault_unsplit) split.can_be
 
 -- ---- where reading stops
 

@@ -14,7 +14,7 @@ use Rattle.vx_desk.specs.Told.{Told}
 use Rattle.vx_feed.specs.declared.events.Event.{Event}
 use Rattle.vx_feed.specs.Feed.{Reading, stopped_at}
 use Rattle.vx_settle.specs.declared.fault.PositionFault.{PositionFault}
-use Rattle.vx_settle.specs.Form.{fault_of_unsplit, unsplit_fault}
+use Rattle.vx_settle.specs.Form.{fault_unsplit, unsplit_fault}
 use Rattle.vx_blocks.specs.declared.split_lines.SplitLines.{SplitLines}
 use Rattle.vx_blocks.specs.declared.split_lines.Rest.{Rest}
 use Rattle.vx_blocks.specs.declared.split_lines.Rest.TheVariants.{More, End, Unsplit, TooLong, NoEol}
@@ -38,7 +38,7 @@ use Rattle.vx_drivers.specs.declared.limits.TheConstants.{POSITION_LINES_MAX, PO
 use Rattle.vx_drivers.specs.declared.position_run.PositionRun.{PositionRun}
 use Rattle.vx_drivers.specs.Along.{Along}
 use Rattle.vx_drivers.specs.Exits.{exit_of_stop, is_cut}
-use Rattle.vx_drivers.specs.Held.{Held, held_by}
+use Rattle.vx_drivers.specs.Held.{Held, held_in}
 use Rattle.vx_drivers.specs.PositionExits.{IsPositionExit}
 use Rattle.vx_drivers.specs.PositionLines.{IsPositionLines, ReadsPositionsOn, StopsReading, bad_behind as cause_behind}
 use Rattle.vx_drivers.specs.PositionRun.{GivesPositionParts, NextIsBad, PositionRules, RunsPositionsBy, RunsPositionsIf, ComesToOneMore, items_from, positions_of, settled_text}
@@ -757,7 +757,7 @@ bad_rest rules count last (Unsplit unsplit) false why o faults is full few bad =
       left_is = next_left (option_map (at_most (POSITION_LINES_MAX - count)) (option_map (line_then last) o)) rest last after
           (allowed_line (POSITION_LINES_MAX - count) (POSITION_LINES_MAX - (count + 1)) last (option_map (line_then last) o) o refl (omega (arith, less)));
       bad = λ answer. subst (λ (w : PositionCause). NextIsBad rules answer (line_then last after.left) w) (same_some bad)
-          (last, after.left, refl, faults answer last (fault_of_unsplit unsplit) (ap (option_map fault_of_unsplit) is));
+          (last, after.left, refl, faults answer last (fault_unsplit unsplit) (ap (option_map fault_unsplit) is));
     }
 bad_rest rules count last TooLong is_full why o faults is full few bad =
     place_left rules (POSITION_LINES_MAX - count) too_long cause.TooLong why o (λ answer. refl) bad
@@ -804,9 +804,9 @@ stop_exit StandsFor held feed reader told stop.NoMemory reads = tt
 -- the positions of a run whose opening was answered are all to come
 pub starts_open : {A I S : Type 0} (rules : PositionRules A I) (StandsAt : S → A → List I → Type 0) (before now : Slot → Told) (run : PositionRun S)
     (p : SplitLines)
-    → HasOpened rules StandsAt (held_by before).feed (feed_told before) before run now → now Side ≡ before Side → IsFresh Side POSITION_LINE_LEN_MAX p
-    → IsSettling rules StandsAt (held_by before) (feed_told before) (positions_told before) before run p now (allowed_positions run.count p now)
+    → HasOpened rules StandsAt (held_in before).feed (feed_told before) before run now → now Side ≡ before Side → IsFresh Side POSITION_LINE_LEN_MAX p
+    → IsSettling rules StandsAt (held_in before) (feed_told before) (positions_told before) before run p now (allowed_positions run.count p now)
 starts_open rules StandsAt before now run p opened same is =
-    starts rules StandsAt (held_by before) (feed_told before) (positions_told before) before run p now (allowed_positions run.count p now) opened
+    starts rules StandsAt (held_in before) (feed_told before) (positions_told before) before run p now (allowed_positions run.count p now) opened
     (allowed_all run.count p now opened.count is ∙ ap (λ (t : Told). option_map positions_of t.left) same)
-    (ap (λ reader. reader.slot) is.lines) (none_given (held_by before).side p now is (ap (λ (t : Told). t.left) (sym same)))
+    (ap (λ reader. reader.slot) is.lines) (none_given (held_in before).side p now is (ap (λ (t : Told). t.left) (sym same)))

@@ -43,7 +43,7 @@ use Rattle.vx_drivers.specs.CertificateRun.{AllAnswered, Answers, GivesAnswers, 
 use Rattle.vx_drivers.specs.CertificateSteps.{AnswersLinesRead, CutsAnswer, EndsAtLine, EndsForFeed, HasEnded, IfBoth, IsCutElsewhere, IsNew, IsThrough, IsUnderWay, MayEnd}
 use Rattle.vx_drivers.specs.CertificateSteps.{SendsAnswer, StandsBetweenLines, allowed, answered_lines, certs_told, next_text, said_exit}
 use Rattle.vx_drivers.specs.Exits.{exit_of_stop, is_cut, is_write_fault}
-use Rattle.vx_drivers.specs.Held.{Held, held_by}
+use Rattle.vx_drivers.specs.Held.{Held, held_in}
 use Rattle.vx_drivers.specs.Sending.{CutsOff, Sent, Text}
 use Rattle.vx_drivers.proofs.AlongLemmas.{along_more}
 use Rattle.vx_drivers.proofs.CertificateLemmas.{counts_add_up, feed_failed, out_of_memory, text_more}
@@ -619,19 +619,19 @@ module _ {C : Type 0} (rules : Rules C) where
       let lines = lines_of LINE_LEN_MAX bytes in record { events_are = refl; no_bad = none_met lines.lines lines.ending [] }
 
   -- a run that memory is wanting for before it reads
-  pub never_started : (told : Slot → Told) → HasEnded rules (held_by told) (feed_told told) (certs_told told) (told Out) told NoMemory
+  pub never_started : (told : Slot → Told) → HasEnded rules (held_in told) (feed_told told) (certs_told told) (told Out) told NoMemory
   never_started told = record {
     text = [];
     sent = sent_none (told Out) (told Out) refl;
     runs = both_none (feed_told told) (certs_told told) NoMemory refl;
-    cut = λ is. read_between (held_by told) (feed_told told) (certs_told told) told NoMemory start [] [] (steps_none (feed_told told))
+    cut = λ is. read_between (held_in told) (feed_told told) (certs_told told) told NoMemory start [] [] (steps_none (feed_told told))
         (record { more = []; held_is = sym (nothing_waits (told Side).left) })
         (nothing_read (told Feed)) (read_none (told Feed).left) (λ read. absurd (out_of_memory.not_lines read));
   }
 
   pub starts : {B : Type 0} (StandsFor : B → List Event → Type 0) (run : CheckRun B) (reader : ReaderState) (told : Slot → Told)
       (rest : Option TextLines) → IsNew StandsFor run → rest ≡ certs_told told → reader.waiting ≡ []
-      → IsUnderWay rules StandsFor (held_by told) (feed_told told) (certs_told told) (told Out) run reader told rest
+      → IsUnderWay rules StandsFor (held_in told) (feed_told told) (certs_told told) (told Out) run reader told rest
   starts StandsFor run reader told rest new is nothing = record {
     stand = start;
     lines = [];
@@ -725,7 +725,7 @@ fresh_reader reader is = record { slot_is = ap (λ (r : ReaderState). r.slot) is
 pub starts_new : {C B : Type 0} (rules : Rules C) (StandsFor : B → List Event → Type 0) (run : CheckRun B) (reader : ReaderState) (told : Slot → Told)
     → IsNew StandsFor run
     → reader ≡ record { slot = Side; limit = CERT_LINE_LEN_MAX; waiting = []; number = 0; is_ended = false; last = None; last_bytes = [] }
-    → IsUnderWay rules StandsFor (held_by told) (feed_told told) (certs_told told)
+    → IsUnderWay rules StandsFor (held_in told) (feed_told told) (certs_told told)
     (told Out) run reader told (allowed (answered_lines run) reader told)
 starts_new rules StandsFor run reader told new is =
     let agreed : run.yes ≡ 0 = new.yes in

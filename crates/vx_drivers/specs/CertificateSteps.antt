@@ -24,7 +24,7 @@ use Rattle.vx_drivers.specs.Along.{Along}
 use Rattle.vx_drivers.specs.Answers.{Answer, answer_of, answer_text, answers_text, count_no, count_yes, end_text}
 use Rattle.vx_drivers.specs.CertificateRun.{Rules, Stand, Answers, RunsBy, Stops, answered, certificates_of, start}
 use Rattle.vx_drivers.specs.Exits.{is_cut, is_write_fault}
-use Rattle.vx_drivers.specs.Held.{Held, held_by}
+use Rattle.vx_drivers.specs.Held.{Held, held_in}
 use Rattle.vx_drivers.specs.Sending.{Begins, CutsOff, Sent, Text}
 
 -- what the certificates are, where their desk tells them
@@ -291,4 +291,4 @@ EndsRun rules StandsFor run told now exit =
 -- the run over a feed and a file of certificates ended, and sent what it gives
 abbrev pub EndsCertificates : {C : Type 0} → Rules C → (Slot → Told) → (Slot → Told) → Exit → Type 0
 EndsCertificates rules before after exit =
-    HasEnded rules (held_by before) (feed_told before) (certs_told before) (before Out) after exit
+    HasEnded rules (held_in before) (feed_told before) (certs_told before) (before Out) after exit

@@ -10,5 +10,5 @@ pub record Held : Type 0 where
   pub side : Option (List ℕ)
 
 -- what two open slots still hold
-abbrev pub held_by : (Slot → Told) → Held
-held_by told = record { feed = (told Feed).left; side = (told Side).left }
+abbrev pub held_in : (Slot → Told) → Held
+held_in told = record { feed = (told Feed).left; side = (told Side).left }

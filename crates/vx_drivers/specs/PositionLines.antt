@@ -3,7 +3,7 @@ use Rattle.std.specs.Prelude.{◌≡◌, ℕ, Bool, true, false, List, Option, S
 use Rattle.vx_desk.specs.declared.device.Slot.{Slot}
 use Rattle.vx_desk.specs.declared.device.Slot.TheVariants.{Side}
 use Rattle.vx_desk.specs.Told.{Told}
-use Rattle.vx_settle.specs.Form.{fault_of_unsplit}
+use Rattle.vx_settle.specs.Form.{fault_unsplit}
 use Rattle.vx_blocks.specs.declared.split_lines.SplitLines.{SplitLines}
 use Rattle.vx_blocks.specs.declared.split_lines.Rest.{Rest}
 use Rattle.vx_blocks.specs.declared.split_lines.Rest.TheVariants.{Unsplit, TooLong, NoEol}
@@ -46,7 +46,7 @@ ReadsPositionsOn old before new after result =
 -- why the line behind those that were split is bad, by whether there are as many as there may be; nothing at the end
 abbrev pub bad_behind : Rest → Bool → Option PositionCause
 bad_behind (Unsplit why) true = Some cause.TooMany
-bad_behind (Unsplit why) false = Some (cause.Fault (fault_of_unsplit why))
+bad_behind (Unsplit why) false = Some (cause.Fault (fault_unsplit why))
 bad_behind TooLong is_full = Some cause.TooLong
 bad_behind NoEol is_full = Some cause.NoEol
 bad_behind _ is_full = None

@@ -6,7 +6,7 @@ ghost use Rattle.std.specs.Prelude.{◌≡◌, ◌+◌, ◌≤◌, [], IfErr, Is
 ghost use Rattle.vx_desk.specs.Calls.{IsStep};
 ghost use Rattle.vx_reading.specs.FeedReading.{feed_told};
 ghost use Rattle.vx_drivers.specs.Exits.{calls_in, exit_calls};
-ghost use Rattle.vx_drivers.specs.Held.{held_by};
+ghost use Rattle.vx_drivers.specs.Held.{held_in};
 ghost use Rattle.vx_drivers.specs.PositionExits.{IsPositionExit};
 ghost use Rattle.vx_drivers.specs.PositionSteps.{HasEndedPositions, OpensRun, positions_told};
 
@@ -239,7 +239,7 @@ fn open_run<B: AnswersOpening, D: Desk>(
     requires feed { IsTrue (D.told desk.old Slot.Feed).is_open }
     requires certs { IsTrue (D.told desk.old Slot.Certs).is_open }
     requires out { IsTrue (D.told desk.old Slot.Out).is_open }
-    ensures opens { OpensRun B.Sheet.rules B.Sheet.StandsAt (held_by (D.told desk.old)) (feed_told (D.told desk.old))
+    ensures opens { OpensRun B.Sheet.rules B.Sheet.StandsAt (held_in (D.told desk.old)) (feed_told (D.told desk.old))
         (D.told desk.old) (D.told desk.new) result }
     ensures side { D.told desk.new Slot.Side ≡ D.told desk.old Slot.Side }
     ensures exits { IfErr result IsPositionExit }
@@ -282,7 +282,7 @@ pub fn settle_positions<B: AnswersOpening, D: Desk>(alloc: Global, book: B, desk
     requires side { IsTrue (D.told desk.old Slot.Side).is_open }
     requires certs { IsTrue (D.told desk.old Slot.Certs).is_open }
     requires out { IsTrue (D.told desk.old Slot.Out).is_open }
-    ensures ends { HasEndedPositions B.Sheet.rules (held_by (D.told desk.old)) (feed_told (D.told desk.old))
+    ensures ends { HasEndedPositions B.Sheet.rules (held_in (D.told desk.old)) (feed_told (D.told desk.old))
         (positions_told (D.told desk.old)) (D.told desk.old) (D.told desk.new) result }
     ensures exits { IsPositionExit result }
     ensures step { IsStep (exit_calls result) (D.told desk.old) (D.told desk.new) }

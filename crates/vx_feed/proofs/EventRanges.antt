@@ -1,5 +1,5 @@
 -- The event that a line says is in range.
-use Rattle.std.proofs.Common.{◌≡◌, subst, refl, ℕ, ◌+◌, ◌*◌, ◌≤◌, Bool, true, false, cond, not, ◌&&◌, List, [], ◌∷◌, take, drop, slice_range}
+use Rattle.std.proofs.Common.{◌≡◌, subst, refl, ℕ, ◌+◌, ◌≤◌, Bool, true, false, cond, not, ◌&&◌, List, [], ◌∷◌, take, drop, slice_range}
 use Rattle.std.proofs.Common.{slice_index, length, ℤ, pos, neg_ℤ, Option, Some, None, Result, Ok, Err, arith}
 use Rattle.std.specs.Prelude.{nat_le, nat_lt, ◌==◌}
 use Rattle.std.specs.Option.{option_map}
@@ -28,7 +28,8 @@ use Rattle.vx_feed.specs.declared.kinds.Kind.TheVariants as kind
 use Rattle.vx_clock.specs.Clock.{time_of_text}
 use Rattle.vx_clock.specs.RootText.{root_of_text}
 use Rattle.vx_feed.specs.Form.{is_version, date_of_text, rate_of_text, price_of_text, if_positive, count_of_text, series_of_text, header_event}
-use Rattle.vx_feed.specs.Form.{expiry_event, rate_event, series_event, quote_event, trade_event, tick_event, opening_event, end_event, field}
+use Rattle.vx_fields.specs.Lines.{field}
+use Rattle.vx_feed.specs.Form.{expiry_event, rate_event, series_event, quote_event, trade_event, tick_event, opening_event, end_event}
 use Rattle.vx_feed.specs.Form.{field_count, kind_of_text, event_of_kind, event_if_counted, event_of_fields}
 use Rattle.vx_feed.specs.Ranges.{IsMinute, IsPrice, IsEventInRange}
 

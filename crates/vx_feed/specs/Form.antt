@@ -1,6 +1,6 @@
 -- What a line says by itself (the forms are this project's own). A line's fields are the pieces
 -- between its commas, counted from 1; the first names the kind of line.
-use Rattle.std.specs.Prelude.{ℕ, ◌-◌, Bool, true, false, ◌==◌, nat_le, ℤ, unsigned_abs, List, [], ◌∷◌, length, codes, bytes_eq, slice_index_or, Option, Some, None, Result, Ok, Err, if◌then◌else◌}
+use Rattle.std.specs.Prelude.{ℕ, Bool, true, false, ◌==◌, nat_le, ℤ, unsigned_abs, List, [], ◌∷◌, length, codes, bytes_eq, Option, Some, None, Result, Ok, Err, if◌then◌else◌}
 use Rattle.std.specs.Result.{result_ok}
 use Rattle.vx_num.specs.Decimal.{decimal_of, signed_decimal_of}
 use Rattle.vx_clock.specs.Clock.{time_of_text}
@@ -9,6 +9,7 @@ use Rattle.vx_clock.specs.RootText.{root_of_text}
 use Rattle.vx_clock.specs.declared.days.DayNo.{DayNo}
 use Rattle.vx_clock.specs.declared.limits.TheConstants.{RATE_MIN, RATE_MAX}
 use Rattle.vx_clock.specs.declared.terms.Root.{Root}
+use Rattle.vx_fields.specs.Lines.{field}
 use Rattle.vx_symbol.specs.Symbol.{symbol_of_text}
 use Rattle.vx_symbol.specs.declared.limits.TheConstants.{PRICE_MAX}
 use Rattle.vx_symbol.specs.declared.symbols.Symbol.{Symbol}
@@ -132,10 +133,6 @@ opening_event (Some time) = Ok (event.Opening time)
 abbrev pub end_event : Option ℕ → Result Event FeedFault
 end_event None = Err (fault.Field 2)
 end_event (Some count) = Ok (event.End count)
-
--- the n-th field, from 1
-abbrev pub field : List (List ℕ) → ℕ → List ℕ
-field fields n = slice_index_or fields (n - 1) []
 
 -- the event of a line of a kind, or else the first fault of its fields
 abbrev pub event_of_kind : Kind → List (List ℕ) → Result Event FeedFault

@@ -13,7 +13,7 @@ use Rattle.vx_feed.specs.declared.events.Event.{Event}
 use Rattle.vx_feed.specs.declared.events.Event.TheVariants as event
 use Rattle.vx_feed.specs.Same.{is_same_expiry}
 use Rattle.vx_feed.specs.Said.{first_said}
-use Rattle.vx_feed.specs.Standing.{BidAsk, lists_series, standing_quote}
+use Rattle.vx_feed.specs.Standing.{BidAsk, if_standing, lists_series, standing_quote}
 
 -- the day that a header names
 abbrev pub header_day : Event → Option DayNo
@@ -94,6 +94,10 @@ abbrev pub quoted_price : Option BidAsk → Price
 quoted_price None = no_price
 quoted_price (Some quote) =
     record { there = true; live = nat_le 1 quote.bid; half = quote.bid + quote.ask }
+
+-- the price that a bid and an ask show: none where a quote of them does not stand
+abbrev pub price_of : ℕ → ℕ → Price
+price_of bid ask = quoted_price (if_standing (record { bid = bid; ask = ask }))
 
 -- the row of a strike, with the price of its put and of its call
 abbrev pub row_of : (Symbol → Price) → Expiry → ℕ → StrikeRow

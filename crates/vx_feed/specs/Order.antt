@@ -44,6 +44,11 @@ time_of (event.Tick time) = Some time
 time_of (event.Opening time) = Some time
 time_of _ = None
 
+-- the minute of a tick
+abbrev pub tick_minute : Event → Option ℕ
+tick_minute (event.Tick time) = Some time
+tick_minute _ = None
+
 -- the event is at a minute after this one
 abbrev pub is_later_than : ℕ → Event → Bool
 is_later_than time e = option_map_or (nat_lt time) (time_of e) false

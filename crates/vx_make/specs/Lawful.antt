@@ -1,13 +1,12 @@
 -- That sample feeds are lawful, whatever the number: a feed of at most so many ticks as a day has minutes.
-use Rattle.std.specs.Prelude.{◌≡◌, ℕ, ◌+◌, ◌≤◌, List, [], ◌∷◌, length, map, Option, Some, None}
+use Rattle.std.specs.Prelude.{◌≡◌, ℕ, ◌+◌, ◌≤◌, List, [], ◌∷◌, length, map, None}
 use Rattle.std.specs.List.{filter_map}
 use Rattle.vx_lines.specs.TextLines.{at_end, lines_of}
 use Rattle.vx_feed.specs.declared.events.Event.{Event}
-use Rattle.vx_feed.specs.declared.events.Event.TheVariants as event
 use Rattle.vx_feed.specs.declared.limits.TheConstants.{LINE_LEN_MAX}
 use Rattle.vx_feed.specs.Feed.{IsLawfulFeed, reading_of}
 use Rattle.vx_feed.specs.NextEvents.{EndWithCount}
-use Rattle.vx_feed.specs.Order.{AreLawful}
+use Rattle.vx_feed.specs.Order.{AreLawful, tick_minute}
 use Rattle.vx_feed.specs.Written.{event_line}
 use Rattle.vx_make.specs.declared.limits.TheConstants.{FIRST_MINUTE, TICKS_MAX}
 use Rattle.vx_make.specs.Quotes.{for_each}
@@ -35,11 +34,6 @@ SamplesAreReadBack = (number ticks : ℕ) → ticks ≤ TICKS_MAX →
 -- so it is a lawful feed
 abbrev pub SampleTextsAreLawful : Type 0
 SampleTextsAreLawful = (number ticks : ℕ) → ticks ≤ TICKS_MAX → IsLawfulFeed (make_text number ticks)
-
--- the minute of a tick
-abbrev pub tick_minute : Event → Option ℕ
-tick_minute (event.Tick time) = Some time
-tick_minute _ = None
 
 -- the minutes of the ticks among events, in their order
 abbrev pub tick_minutes : List Event → List ℕ

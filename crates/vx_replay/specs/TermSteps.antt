@@ -10,7 +10,7 @@ use Rattle.vx_feed.specs.Order.{AreLawful}
 use Rattle.vx_formula.specs.Term.{TermFacts}
 use Rattle.vx_claims.specs.declared.limits.TheConstants.{SCALE}
 use Rattle.vx_book.specs.declared.book.Book.{Book}
-use Rattle.vx_book.specs.StandsFor.{StandsFor}
+use Rattle.vx_book.specs.StandsFor.{BookStandsFor}
 use Rattle.vx_term.specs.declared.answer.TermAnswer.{TermAnswer}
 use Rattle.vx_term.specs.KeptAfter.{IsSelectedStrip, IsKeptAfter}
 use Rattle.vx_replay.specs.StripsAfter.{Holding}
@@ -23,7 +23,7 @@ SettlesAhead now x = (pos 1 ≤ℤ days_until now.day x.date) × (days_until now
 pub record HasStripsFor (book : Book) (strips : List Holding) : Type 0 where
   pub events : List Event
   pub lawful : AreLawful events
-  pub stands : StandsFor book events
+  pub stands : BookStandsFor book events
   pub as_many : length strips ≡ length book.expiries.items
 
 -- the strip at a place changes as the term's answer says; every other holds what it held

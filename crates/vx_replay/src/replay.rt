@@ -2,7 +2,7 @@
 
 ghost use Rattle.std.specs.Prelude.{◌≡◌, ◌≢◌, ℕ, ◌<◌, ◌≤◌, ◌^◌, List, [], ◌∷◌, ◌++◌, Some, None, Ok, IfOk, OnOk, OnErr, slice_get};
 ghost use Rattle.vx_feed.specs.declared.events.Event.{Event};
-ghost use Rattle.vx_replay.specs.StandsFor.{HasPlace, MayStep, OfEvents, StandsFor, ReplayStandsStill, Steps as StepsTo};
+ghost use Rattle.vx_replay.specs.StandsFor.{HasPlace, MayStep, OfEvents, ReplayStandsFor, ReplayStandsStill, Steps as StepsTo};
 ghost use Rattle.vx_replay.specs.Stepped.{IsAnswerNext, IsStepAnswer};
 ghost use Rattle.vx_replay.specs.StripsAfter.{AreKeptAfter, AreKeptAfterTick};
 
@@ -37,7 +37,7 @@ pub struct Replay {
 impl Replay {
     /// The replay of no event.
     pub fn new(alloc: Global) -> Result<Replay, NoMemory>
-        ensures { IfOk result (λ replay. StandsFor replay []) }
+        ensures { IfOk result (λ replay. ReplayStandsFor replay []) }
     {
         Ok(Replay {
             alloc,

@@ -2,7 +2,7 @@
 ghost use Rattle.std.specs.Prelude.{List, OnOk};
 ghost use Rattle.vx_feed.specs.declared.events.Event.{Event};
 ghost use Rattle.vx_feed.specs.Noted as noted;
-ghost use Rattle.vx_replay.specs.StandsFor.{StandsFor};
+ghost use Rattle.vx_replay.specs.StandsFor.{ReplayStandsFor};
 
 use crate::{Reason, Replay, SCALE, TickAnswer, Which, join_terms};
 use std::alloc::Global;
@@ -335,8 +335,9 @@ fn said_of(answer: &Option<TickAnswer>) -> Said {
 
 // Takes up a line in both.
 fn take_line(alloc: Global, line: &str, seen: &mut Order, replay: &mut Replay) -> Result<Said, Fail>
-    requires { (events : List Event) × noted.StandsFor seen.old events × StandsFor replay.old events }
-    ensures { OnOk result ((events : List Event) × noted.StandsFor seen.new events × StandsFor replay.new events) }
+    requires { (events : List Event) × noted.StandsFor seen.old events × ReplayStandsFor replay.old events }
+    ensures { OnOk result ((events : List Event) × noted.StandsFor seen.new events
+        × ReplayStandsFor replay.new events) }
 {
     let event = read_event(alloc, line.as_bytes(), seen)?;
     seen.note(&event)?;
@@ -351,8 +352,9 @@ pub(crate) fn take_piece(
     seen: &mut Order,
     replay: &mut Replay,
 ) -> Result<bool, Fail>
-    requires { (events : List Event) × noted.StandsFor seen.old events × StandsFor replay.old events }
-    ensures { OnOk result ((events : List Event) × noted.StandsFor seen.new events × StandsFor replay.new events) }
+    requires { (events : List Event) × noted.StandsFor seen.old events × ReplayStandsFor replay.old events }
+    ensures { OnOk result ((events : List Event) × noted.StandsFor seen.new events
+        × ReplayStandsFor replay.new events) }
 {
     let mut quiet = true;
     for line in piece {

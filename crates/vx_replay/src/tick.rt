@@ -10,7 +10,7 @@ ghost use Rattle.vx_feed.specs.Listed.{trade_date};
 ghost use Rattle.vx_cert.specs.declared.limits.TheConstants.{LINE_MAX};
 ghost use Rattle.vx_claims.specs.declared.limits.TheConstants.{SCALE};
 ghost use Rattle.vx_claims.specs.Seen.{moment_of, term_facts};
-ghost use Rattle.vx_book.specs.StandsFor.{StandsFor};
+ghost use Rattle.vx_book.specs.StandsFor.{BookStandsFor};
 ghost use Rattle.vx_replay.specs.Joinable.{CanBeWritten};
 ghost use Rattle.vx_replay.specs.StripsAfter.{AreKeptAfterTick};
 ghost use Rattle.vx_replay.specs.TermSteps.{HasStripsFor, SettlesAhead, IsTermKept};
@@ -42,10 +42,10 @@ pub(crate) fn answer_tick<L: Ledger>(
     requires day { IsSome book.now.day }
     requires line { book.now.lines < LINE_MAX }
     requires count { steps.old ≤ 2 ^ 62 }
-    ensures answer { (events : List Event) (day : DayNo) → StandsFor book.now events → trade_date events ≡ Some day
+    ensures answer { (events : List Event) (day : DayNo) → BookStandsFor book.now events → trade_date events ≡ Some day
         → IfOk result (IsAnswerAfter events (moment_of day time) (length events + 1) INDEX_DAYS INDEX_WINDOW) }
     ensures in_range { IfOk result CanBeWritten }
-    ensures kept { (events : List Event) → StandsFor book.now events
+    ensures kept { (events : List Event) → BookStandsFor book.now events
         → AreKeptAfterTick events time kept.old kept.new steps.old steps.new result }
 {
     let Some(day) = book.day() else {
@@ -83,10 +83,10 @@ fn answer_terms<L: Ledger>(
     requires minute { now.minute ≤ MINUTE_MAX }
     requires line { book.now.lines < LINE_MAX }
     requires count { steps.old ≤ 2 ^ 62 }
-    ensures answer { (events : List Event) → StandsFor book.now events
+    ensures answer { (events : List Event) → BookStandsFor book.now events
         → IfOk result (IsAnswerOfTerms events now (length events + 1) INDEX_DAYS INDEX_WINDOW) }
     ensures in_range { IfOk result CanBeWritten }
-    ensures kept { (events : List Event) → StandsFor book.now events → trade_date events ≡ Some now.day
+    ensures kept { (events : List Event) → BookStandsFor book.now events → trade_date events ≡ Some now.day
         → AreKeptAfterTick events now.minute kept.old kept.new steps.old steps.new result }
 {
     let near = answer_term(alloc, book, kept, now, places.0, steps)?;
@@ -116,9 +116,9 @@ fn answer_term<L: Ledger>(
     requires ahead { (x : Expiry) → slice_get book.now.expiries.items place ≡ Some x → SettlesAhead now x }
     requires minute { now.minute ≤ MINUTE_MAX }
     requires count { steps.old ≤ 2 ^ 63 }
-    ensures answer { (events : List Event) (x : Expiry) → StandsFor book.now events
+    ensures answer { (events : List Event) (x : Expiry) → BookStandsFor book.now events
         → slice_get book.now.expiries.items place ≡ Some x → IfOk result (IsAnswerFor events now x) }
-    ensures kept { (events : List Event) (x : Expiry) → StandsFor book.now events
+    ensures kept { (events : List Event) (x : Expiry) → BookStandsFor book.now events
         → slice_get book.now.expiries.items place ≡ Some x
         → IsTermKept (term_facts events now x) place kept.old kept.new steps.old steps.new result }
 {

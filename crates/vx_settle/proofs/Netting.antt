@@ -6,7 +6,7 @@ use Rattle.vx_num.proofs.Whole.{mul_add}
 use Rattle.vx_settle.specs.declared.position.Contract.{Contract}
 use Rattle.vx_settle.specs.declared.position.Contract.TheVariants.{Vx, Vxm}
 use Rattle.vx_settle.specs.declared.position.Position.{Position}
-use Rattle.vx_settle.specs.Amount.{AreAmounts, is_position_at, is_same_contract, net_quantity, total_of}
+use Rattle.vx_settle.specs.Amount.{AreAmounts, is_position_at, is_same_contract, net_quantity, sum_of_amounts}
 use Rattle.vx_settle.specs.Position.{multiplier_of}
 
 -- what one contract gains, in hundredths of a cent
@@ -24,12 +24,12 @@ worth_of_all figure (p ∷ ps) = worth_of figure p +ℤ worth_of_all figure ps
 hundredfold : (a total worth rest : ℤ) → pos 100 *ℤ a ≡ worth → pos 100 *ℤ total ≡ rest → pos 100 *ℤ (a +ℤ total) ≡ worth +ℤ rest
 hundredfold a total worth rest e f = omega (arith, ints)
 
-total_is_worth : (figure : ℕ) (ps : List Position) (amounts : List ℤ) → AreAmounts figure ps amounts → pos 100 *ℤ total_of amounts ≡ worth_of_all figure ps
+total_is_worth : (figure : ℕ) (ps : List Position) (amounts : List ℤ) → AreAmounts figure ps amounts → pos 100 *ℤ sum_of_amounts amounts ≡ worth_of_all figure ps
 total_is_worth figure [] [] h = refl
 total_is_worth figure [] (a ∷ amounts) h = absurd h
 total_is_worth figure (p ∷ ps) [] h = absurd h
 total_is_worth figure (p ∷ ps) (a ∷ amounts) h =
-    hundredfold a (total_of amounts) (worth_of figure p) (worth_of_all figure ps) h.0 (total_is_worth figure ps amounts h.1)
+    hundredfold a (sum_of_amounts amounts) (worth_of figure p) (worth_of_all figure ps) h.0 (total_is_worth figure ps amounts h.1)
 
 -- the positions that are not in a contract with a last price
 abbrev others : Contract → ℕ → List Position → List Position
@@ -166,6 +166,6 @@ netted_worth (suc n) figure (p ∷ ps) few nets =
     (λ contract last. ap (net_quantity contract last) (sym (others_behind p ps)) ∙ others_net contract last (p ∷ ps) (is_same_contract contract p.contract && (last == p.last)) p.contract p.last refl (nets contract last)))
 
 -- positions that net to zero at each contract and last price have amounts that sum to zero
-pub netted_settles_to_zero : (figure : ℕ) (ps : List Position) (amounts : List ℤ) → ((contract : Contract) (last : ℕ) → net_quantity contract last ps ≡ pos 0) → AreAmounts figure ps amounts → total_of amounts ≡ pos 0
+pub netted_settles_to_zero : (figure : ℕ) (ps : List Position) (amounts : List ℤ) → ((contract : Contract) (last : ℕ) → net_quantity contract last ps ≡ pos 0) → AreAmounts figure ps amounts → sum_of_amounts amounts ≡ pos 0
 netted_settles_to_zero figure ps amounts nets are =
-    emptied (total_of amounts) (total_is_worth figure ps amounts are ∙ netted_worth (length ps) figure ps (omega arith) nets)
+    emptied (sum_of_amounts amounts) (total_is_worth figure ps amounts are ∙ netted_worth (length ps) figure ps (omega arith) nets)

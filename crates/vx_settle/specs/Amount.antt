@@ -18,9 +18,9 @@ AreAmounts figure (p ∷ ps) [] = ⊥
 AreAmounts figure (p ∷ ps) (amount ∷ amounts) = IsAmount figure p amount × AreAmounts figure ps amounts
 
 -- the sum of amounts, in cents
-abbrev pub total_of : List ℤ → ℤ
-total_of [] = pos 0
-total_of (amount ∷ amounts) = amount +ℤ total_of amounts
+abbrev pub sum_of_amounts : List ℤ → ℤ
+sum_of_amounts [] = pos 0
+sum_of_amounts (amount ∷ amounts) = amount +ℤ sum_of_amounts amounts
 
 abbrev pub is_same_contract : Contract → Contract → Bool
 is_same_contract Vx Vx = true

@@ -43,12 +43,12 @@ position_of_fields f =
     else Err fault.Fields
 
 -- the fault of a line that has no fields
-abbrev pub fault_of_unsplit : Unsplit → PositionFault
-fault_of_unsplit Empty = fault.Fields
-fault_of_unsplit Byte = fault.Byte
+abbrev pub fault_unsplit : Unsplit → PositionFault
+fault_unsplit Empty = fault.Fields
+fault_unsplit Byte = fault.Byte
 
 abbrev pub unsplit_fault : List ℕ → Option PositionFault
-unsplit_fault line = option_map fault_of_unsplit (why_unsplit line)
+unsplit_fault line = option_map fault_unsplit (why_unsplit line)
 
 -- the position of a line that can be split, or the fault of one that can't
 abbrev pub position_unless : Option PositionFault → List ℕ → Result Position PositionFault

@@ -2,7 +2,7 @@
 use Rattle.std.specs.Prelude.{◌≡◌, ℕ, ℤ, pos, List}
 use Rattle.vx_settle.specs.declared.position.Contract.{Contract}
 use Rattle.vx_settle.specs.declared.position.Position.{Position}
-use Rattle.vx_settle.specs.Amount.{AreAmounts, IsAmount, net_quantity, total_of}
+use Rattle.vx_settle.specs.Amount.{AreAmounts, IsAmount, net_quantity, sum_of_amounts}
 
 -- a position has one amount at a figure
 abbrev pub AmountIsOne : Type 0
@@ -15,4 +15,4 @@ AmountIsThere = (figure : ℕ) (p : Position) → (amount : ℤ) × IsAmount fig
 -- where for each contract and each last price the quantities add to zero, the amounts do so at every figure
 abbrev pub NettedSettlesToZero : Type 0
 NettedSettlesToZero =
-    (figure : ℕ) (ps : List Position) (amounts : List ℤ) → ((contract : Contract) (last : ℕ) → net_quantity contract last ps ≡ pos 0) → AreAmounts figure ps amounts → total_of amounts ≡ pos 0
+    (figure : ℕ) (ps : List Position) (amounts : List ℤ) → ((contract : Contract) (last : ℕ) → net_quantity contract last ps ≡ pos 0) → AreAmounts figure ps amounts → sum_of_amounts amounts ≡ pos 0

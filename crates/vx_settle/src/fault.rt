@@ -34,9 +34,9 @@ impl From<NoMemory> for PositionFault {
 
 impl From<Unsplit> for PositionFault {
     ghost use Rattle.std.specs.Prelude.{◌≡◌};
-    ghost use Rattle.vx_settle.specs.Form.{fault_of_unsplit};
+    ghost use Rattle.vx_settle.specs.Form.{fault_unsplit};
 
-    ghost from_gives = { λ cause fault. fault ≡ fault_of_unsplit cause };
+    ghost from_gives = { λ cause fault. fault ≡ fault_unsplit cause };
 
     fn from(cause: Unsplit) -> PositionFault {
         match cause {

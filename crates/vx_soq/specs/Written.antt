@@ -8,11 +8,11 @@ use Rattle.vx_soq.specs.declared.answer.OpeningAnswer.TheVariants.{Published}
 use Rattle.vx_soq.specs.Openings.{IsOpeningAnswer}
 
 -- each field of the certificate of a published figure is in its range
-abbrev pub CanBeWritten : OpeningAnswer → Type 0
-CanBeWritten (Published figure) = IsCertificateInRange figure.certificate
-CanBeWritten _ = Unit {0}
+abbrev pub IsWritable : OpeningAnswer → Type 0
+IsWritable (Published figure) = IsCertificateInRange figure.certificate
+IsWritable _ = Unit {0}
 
 -- so it is for the opening of lawful events
 abbrev pub OpeningCanBeWritten : Type 0
 OpeningCanBeWritten = (events : List Event) (answer : OpeningAnswer) →
-    AreLawful events → IsOpeningAnswer events answer → CanBeWritten answer
+    AreLawful events → IsOpeningAnswer events answer → IsWritable answer

@@ -7,7 +7,7 @@ ghost use Rattle.vx_claims.specs.Seen.{opening_expiry};
 ghost use Rattle.vx_feed.specs.declared.events.Event.{Event};
 ghost use Rattle.vx_feed.specs.Order.{AreLawful};
 ghost use Rattle.vx_feed.specs.Same.{is_same_expiry};
-ghost use Rattle.vx_book.specs.StandsFor.{StandsFor, StandsForSome};
+ghost use Rattle.vx_book.specs.StandsFor.{BookStandsFor, BookStandsForSome};
 ghost use Rattle.vx_term.specs.Answer.{OnRun};
 ghost use Rattle.vx_term.specs.Steps.{IsRunInRange};
 ghost use Rattle.vx_soq.specs.Complete.{PublishesWhereClear, RefusesWhereClear};
@@ -15,7 +15,7 @@ ghost use Rattle.vx_soq.specs.Figures.{IsOpeningFigure, IsAnswerByTerm, certific
 ghost use Rattle.vx_soq.specs.Lawful.{IsLawfulOpening};
 ghost use Rattle.vx_soq.specs.Openings.{IsOpeningAnswer};
 ghost use Rattle.vx_soq.specs.TermPlace.{FindsTerm};
-ghost use Rattle.vx_soq.specs.Written.{CanBeWritten};
+ghost use Rattle.vx_soq.specs.Written.{IsWritable};
 
 use crate::answer::{Figure, OpeningAnswer, SoqReason};
 use std::alloc::Global;
@@ -47,16 +47,16 @@ use vx_term::{TermAnswer, TermRun, single, term_variance};
 ///
 /// `NoMemory`, for the term's strip or for the certificate.
 pub fn opening_figure(alloc: Global, book: &Book) -> Result<OpeningAnswer, NoMemory>
-    requires { StandsForSome book.now }
-    ensures answer { (events : List Event) → StandsFor book.now events → IfOk result (IsOpeningAnswer events) }
-    ensures lawful { (events : List Event) → StandsFor book.now events → AreLawful events
+    requires { BookStandsForSome book.now }
+    ensures answer { (events : List Event) → BookStandsFor book.now events → IfOk result (IsOpeningAnswer events) }
+    ensures lawful { (events : List Event) → BookStandsFor book.now events → AreLawful events
         → IfOk result (IsLawfulOpening events) }
-    ensures published { (events : List Event) → StandsFor book.now events → AreLawful events
+    ensures published { (events : List Event) → BookStandsFor book.now events → AreLawful events
         → IfOk result (PublishesWhereClear events) }
-    ensures refused { (events : List Event) → StandsFor book.now events → AreLawful events
+    ensures refused { (events : List Event) → BookStandsFor book.now events → AreLawful events
         → IfOk result (RefusesWhereClear events) }
-    ensures writable { (events : List Event) → StandsFor book.now events → AreLawful events
-        → IfOk result CanBeWritten }
+    ensures writable { (events : List Event) → BookStandsFor book.now events → AreLawful events
+        → IfOk result IsWritable }
 {
     let Some(opened) = book.opening_at() else {
         return Ok(OpeningAnswer::Refused(SoqReason::NoOpening));
@@ -72,9 +72,9 @@ pub fn opening_figure(alloc: Global, book: &Book) -> Result<OpeningAnswer, NoMem
 /// Where the opening's term stands in the book's order of declaration, if it was declared before the
 /// opening.
 fn term_place(book: &Book, opened: Opened) -> Option<usize>
-    requires stands { StandsForSome book.now }
+    requires stands { BookStandsForSome book.now }
     requires opened { book.now.opened ≡ Some opened }
-    ensures { (events : List Event) → StandsFor book.now events → FindsTerm events result }
+    ensures { (events : List Event) → BookStandsFor book.now events → FindsTerm events result }
 {
     let day = book.day()?;
     let declared = book.expiries();

@@ -2,7 +2,7 @@
 ghost use Rattle.std.specs.Prelude.{List, IfOk, OnOk};
 ghost use Rattle.vx_feed.specs.declared.events.Event.{Event};
 ghost use Rattle.vx_feed.specs.Noted as noted;
-ghost use Rattle.vx_book.specs.StandsFor.{StandsFor};
+ghost use Rattle.vx_book.specs.StandsFor.{BookStandsFor};
 
 use crate::{OpeningAnswer, SoqReason, opening_figure};
 use std::alloc::Global;
@@ -33,8 +33,8 @@ const FIGURE: (u64, i64, i64) = (2066, 20_657_919, 20_657_920);
 
 // Takes up lines in both.
 fn take_lines(alloc: Global, lines: &[&str], seen: &mut Order, book: &mut Book) -> Result<(), Fail>
-    requires { (events : List Event) × noted.StandsFor seen.old events × StandsFor book.old events }
-    ensures { OnOk result ((events : List Event) × noted.StandsFor seen.new events × StandsFor book.new events) }
+    requires { (events : List Event) × noted.StandsFor seen.old events × BookStandsFor book.old events }
+    ensures { OnOk result ((events : List Event) × noted.StandsFor seen.new events × BookStandsFor book.new events) }
 {
     for line in lines {
         let event = read_event(alloc, line.as_bytes(), seen)?;

@@ -3,7 +3,7 @@ use Rattle.std.proofs.Common.{◌≡◌, ◌↔◌, ℕ, ◌+◌, ◌*◌, ◌^�
 use Rattle.std.proofs.lemmas.Nat.{pow-add}
 use Rattle.vx_cert.specs.declared.certificate.Ends.{Ends}
 use Rattle.vx_claims.specs.Exponential.{low_sum, high_sum, EncloseExponential}
-use Rattle.vx_tests.specs.Ranges.{IsExponentialInRange, EnclosesReciprocal}
+use Rattle.vx_tests.specs.Ranges.{IsExponentialAdmitted, EnclosesReciprocal}
 use Rattle.std.proofs.lemmas.Int.{ints}
 use Rattle.std.proofs.Math.Nat.{pow-le-pow_right}
 use Rattle.vx_claims.specs.declared.limits.TheConstants.{SCALE}
@@ -29,7 +29,7 @@ power_at_scale scale h = pow-le-pow_right (omega arith) h
 double : (P : ℕ) → 2 ^ (2 * P) ≡ 2 ^ P * 2 ^ P
 double P = let e : 2 * P ≡ P + P = omega arith in ap (λ k. 2 ^ k) e ∙ pow-add 2 P P
 
-module _ (P : ℕ) (rate : ℤ) (low high : List ℕ) (e : Ends) (negative : rate <ℤ pos 0) (range : IsExponentialInRange P e) where
+module _ (P : ℕ) (rate : ℤ) (low high : List ℕ) (e : Ends) (negative : rate <ℤ pos 0) (range : IsExponentialAdmitted P e) where
   from_reciprocal : EnclosesReciprocal P (pos (low_sum low)) (pos (high_sum high)) e → EncloseExponential P rate low high e
   from_reciprocal h =
       let d = double P in

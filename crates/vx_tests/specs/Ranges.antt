@@ -7,7 +7,7 @@ use Rattle.vx_claims.specs.declared.limits.TheConstants.{EXCESS_MAX, VARIANCE_MA
 use Rattle.vx_claims.specs.TermTests.{IsWithin}
 
 -- not negative, in order, and at most 5/4
-pub record IsExponentialInRange (P : ℕ) (e : Ends) : Type 0 where
+pub record IsExponentialAdmitted (P : ℕ) (e : Ends) : Type 0 where
   pub not_negative : pos 0 ≤ℤ e.lo
   pub in_order : e.lo ≤ℤ e.hi
   pub in_range : (pos 4 *ℤ e.hi) ≤ℤ pos (5 * 2 ^ P)
@@ -19,20 +19,20 @@ pub record EnclosesReciprocal (P : ℕ) (low high : ℤ) (e : Ends) : Type 0 whe
   pub below : (e.lo *ℤ high) ≤ℤ pos (2 ^ P * 2 ^ P)
   pub above : pos (2 ^ P * 2 ^ P) ≤ℤ (e.hi *ℤ low)
 
-pub record IsExcessInRange (P : ℕ) (g : Ends) : Type 0 where
+pub record IsExcessAdmitted (P : ℕ) (g : Ends) : Type 0 where
   pub not_negative : pos 0 ≤ℤ g.lo
   pub in_order : g.lo ≤ℤ g.hi
   pub in_range : g.hi ≤ℤ pos (EXCESS_MAX * 2 ^ P)
 
-pub record IsTotalInRange (P : ℕ) (s : Ends) : Type 0 where
+pub record IsTotalAdmitted (P : ℕ) (s : Ends) : Type 0 where
   pub not_negative : pos 0 ≤ℤ s.lo
   pub in_order : s.lo ≤ℤ s.hi
   pub in_range : s.hi ≤ℤ pos (STRIP_TOTAL_MAX * 2 ^ P)
 
-pub record IsVarianceInRange (P : ℕ) (w : Ends) : Type 0 where
+pub record IsVarianceAdmitted (P : ℕ) (w : Ends) : Type 0 where
   pub low : IsWithin (VARIANCE_MAX * 2 ^ P) w.lo
   pub high : IsWithin (VARIANCE_MAX * 2 ^ P) w.hi
 
-pub record IsSquareInRange (P : ℕ) (x : Ends) : Type 0 where
+pub record IsSquareAdmitted (P : ℕ) (x : Ends) : Type 0 where
   pub low : IsWithin (SQUARE_MAX * 2 ^ P) x.lo
   pub high : IsWithin (SQUARE_MAX * 2 ^ P) x.hi

@@ -2,7 +2,7 @@
 
 ghost use Rattle.std.specs.Prelude.{◌≡◌, ℕ, ◌+◌, ◌*◌, ◌^◌, ◌<◌, ◌≤◌, ◌↔◌, IsTrue, pos, ◌*ℤ◌, ◌≤ℤ◌, slice_index};
 ghost use Rattle.vx_claims.specs.Exponential.{AreTaylorTerms, low_sum, high_sum, EncloseExponential};
-ghost use Rattle.vx_tests.specs.Ranges.{IsExponentialInRange, EnclosesReciprocal};
+ghost use Rattle.vx_tests.specs.Ranges.{IsExponentialAdmitted, EnclosesReciprocal};
 
 use crate::scale::{product, units};
 use vx_cert::Ends;
@@ -109,7 +109,7 @@ pub fn encloses_exponential(scale: u32, rate: i32, low: &Terms, high: &Terms, e:
 
 fn is_in_range(scale: u32, e: Ends) -> bool
     requires { scale ≤ SCALE }
-    ensures { IsTrue result ↔ IsExponentialInRange scale e }
+    ensures { IsTrue result ↔ IsExponentialAdmitted scale e }
 {
     0 <= e.lo && e.lo <= e.hi && e.hi <= 5 * units(scale) / 4
 }
@@ -119,7 +119,7 @@ fn encloses_reciprocal(scale: u32, low: i128, high: i128, e: Ends) -> bool
     requires scale { scale ≤ SCALE }
     requires low { (pos 0 ≤ℤ low) × (low ≤ℤ pos (2 ^ 70)) }
     requires high { (pos 0 ≤ℤ high) × (high ≤ℤ pos (2 ^ 70)) }
-    requires in_range { IsExponentialInRange scale e }
+    requires in_range { IsExponentialAdmitted scale e }
     ensures { IsTrue result ↔ EnclosesReciprocal scale low high e }
 {
     are_sums_in_range(scale, low, high) && is_reciprocal(scale, low, high, e)
@@ -138,7 +138,7 @@ fn is_reciprocal(scale: u32, low: i128, high: i128, e: Ends) -> bool
     requires scale { scale ≤ SCALE }
     requires low { (pos 0 ≤ℤ low) × ((pos 4 *ℤ low) ≤ℤ pos (5 * 2 ^ scale)) }
     requires high { (pos 0 ≤ℤ high) × ((pos 4 *ℤ high) ≤ℤ pos (5 * 2 ^ scale)) }
-    requires in_range { IsExponentialInRange scale e }
+    requires in_range { IsExponentialAdmitted scale e }
     ensures { IsTrue result ↔ (((e.lo *ℤ high) ≤ℤ pos (2 ^ scale * 2 ^ scale))
         × (pos (2 ^ scale * 2 ^ scale) ≤ℤ (e.hi *ℤ low))) }
 {

@@ -4,7 +4,7 @@ ghost use Rattle.std.specs.Prelude.{◌≡◌, ◌+◌, ◌*◌, ◌^◌, ◌<�
 ghost use Rattle.vx_claims.specs.TermTests.{IsWithin};
 ghost use Rattle.vx_claims.specs.FigureTests.{EnclosesSquare, EnclosesSingleSquare, EnclosesIndex};
 ghost use Rattle.vx_claims.specs.FigureTests.{ForBothEnds, span, weighted};
-ghost use Rattle.vx_tests.specs.Ranges.{IsVarianceInRange, IsSquareInRange};
+ghost use Rattle.vx_tests.specs.Ranges.{IsVarianceAdmitted, IsSquareAdmitted};
 ghost use Rattle.vx_tests.specs.Figures.{IsBetween, ArePrintedEnds, AreSquaresAround, RoundsTo};
 
 use crate::scale::{is_within, limit, times_small, units};
@@ -37,8 +37,8 @@ pub struct JoinedMinutes {
 pub fn encloses_square(scale: u32, m: JoinedMinutes, near: Ends, next: Ends, x: Ends) -> bool
     requires scale { scale ≤ SCALE }
     requires target { m.target ≤ TARGET_MAX }
-    requires near { IsVarianceInRange scale near }
-    requires next { IsVarianceInRange scale next }
+    requires near { IsVarianceAdmitted scale near }
+    requires next { IsVarianceAdmitted scale next }
     ensures { IsTrue result ↔ EnclosesSquare scale m.target m.near m.next near next x }
 {
     is_square_in_range(scale, x) && is_square_around(scale, m, near, next, x)
@@ -46,7 +46,7 @@ pub fn encloses_square(scale: u32, m: JoinedMinutes, near: Ends, next: Ends, x: 
 
 pub(crate) fn is_square_in_range(scale: u32, x: Ends) -> bool
     requires { scale ≤ SCALE }
-    ensures { IsTrue result ↔ IsSquareInRange scale x }
+    ensures { IsTrue result ↔ IsSquareAdmitted scale x }
 {
     is_within(limit(scale, SQUARE_MAX), x.lo) && is_within(limit(scale, SQUARE_MAX), x.hi)
 }
@@ -54,9 +54,9 @@ pub(crate) fn is_square_in_range(scale: u32, x: Ends) -> bool
 fn is_square_around(scale: u32, m: JoinedMinutes, near: Ends, next: Ends, x: Ends) -> bool
     requires scale { scale ≤ SCALE }
     requires target { m.target ≤ TARGET_MAX }
-    requires near { IsVarianceInRange scale near }
-    requires next { IsVarianceInRange scale next }
-    requires square { IsSquareInRange scale x }
+    requires near { IsVarianceAdmitted scale near }
+    requires next { IsVarianceAdmitted scale next }
+    requires square { IsSquareAdmitted scale x }
     ensures { IsTrue result ↔ ForBothEnds near (λ y. ForBothEnds next (λ z. IsBetween
         (x.lo *ℤ span m.target m.near m.next)
         (weighted m.target m.near m.next y z)
@@ -80,7 +80,7 @@ fn is_weighted_between(
     requires scale { scale ≤ SCALE }
     requires target { m.target ≤ TARGET_MAX }
     requires near { IsWithin (VARIANCE_MAX * 2 ^ scale) near }
-    requires next { IsVarianceInRange scale next }
+    requires next { IsVarianceAdmitted scale next }
     ensures { IsTrue result ↔ ForBothEnds next (λ z. IsBetween low (weighted m.target m.near m.next near z) high) }
 {
     is_between(low, weighted(scale, m, near, next.lo), high)
@@ -147,7 +147,7 @@ fn times_wide(end: i128, factor: i128) -> i128
 /// The ends enclose the square of the index that one term gives at exactly 30 days.
 pub fn encloses_single_square(scale: u32, w: Ends, x: Ends) -> bool
     requires scale { scale ≤ SCALE }
-    requires variance { IsVarianceInRange scale w }
+    requires variance { IsVarianceAdmitted scale w }
     ensures { IsTrue result ↔ EnclosesSingleSquare scale w x }
 {
     is_square_in_range(scale, x) && is_single_around(scale, w, x)
@@ -155,8 +155,8 @@ pub fn encloses_single_square(scale: u32, w: Ends, x: Ends) -> bool
 
 fn is_single_around(scale: u32, w: Ends, x: Ends) -> bool
     requires scale { scale ≤ SCALE }
-    requires variance { IsVarianceInRange scale w }
-    requires square { IsSquareInRange scale x }
+    requires variance { IsVarianceAdmitted scale w }
+    requires square { IsSquareAdmitted scale x }
     ensures { IsTrue result ↔ ForBothEnds w (λ y. IsBetween
         (x.lo *ℤ pos THIRTY_DAYS) (pos YEAR_MINUTES *ℤ y) (x.hi *ℤ pos THIRTY_DAYS)) }
 {
@@ -184,7 +184,7 @@ fn times_year(scale: u32, end: i128) -> i128
 /// The printed ends enclose the index, lie close, and round to the cents.
 pub fn encloses_index(scale: u32, figure: &CertFigure) -> bool
     requires scale { scale ≤ SCALE }
-    requires square { IsSquareInRange scale figure.now.x }
+    requires square { IsSquareAdmitted scale figure.now.x }
     ensures { IsTrue result ↔ EnclosesIndex scale figure.now }
 {
     are_printed_ends(figure) && are_squares_around(scale, figure) && rounds_to(figure)
@@ -214,7 +214,7 @@ fn are_ends_close(lo: i64, hi: i64) -> bool
 /// The squares of the printed ends lie around the square of the index.
 fn are_squares_around(scale: u32, figure: &CertFigure) -> bool
     requires scale { scale ≤ SCALE }
-    requires square { IsSquareInRange scale figure.now.x }
+    requires square { IsSquareAdmitted scale figure.now.x }
     requires printed { ArePrintedEnds figure.now }
     ensures { IsTrue result ↔ AreSquaresAround scale figure.now }
 {

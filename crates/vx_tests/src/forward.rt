@@ -3,7 +3,7 @@
 ghost use Rattle.std.specs.Prelude.{◌≡◌, ◌+◌, ◌*◌, ◌^◌, ◌≤◌, ◌↔◌, IsTrue, pos, ◌+ℤ◌, ◌-ℤ◌, ◌*ℤ◌, ◌≤ℤ◌};
 ghost use Rattle.vx_claims.specs.TermTests.{EnclosesForward, EnclosesExcess, IsWithin, forward_end};
 ghost use Rattle.vx_claims.specs.Accepts.{zero_rate_forward};
-ghost use Rattle.vx_tests.specs.Ranges.{IsExponentialInRange, IsExcessInRange};
+ghost use Rattle.vx_tests.specs.Ranges.{IsExponentialAdmitted, IsExcessAdmitted};
 
 use crate::scale::{is_within, limit, power, strike_end, times_small, units};
 use vx_cert::{Ends, Pair};
@@ -12,7 +12,7 @@ use vx_claims::limits::{EXCESS_MAX, FORWARD_BITS, SCALE};
 /// The ends enclose the forward, which is the pair's strike and its difference times the exponential.
 pub fn encloses_forward(scale: u32, pair: Pair, e: Ends, f: Ends) -> bool
     requires scale { scale ≤ SCALE }
-    requires exponential { IsExponentialInRange scale e }
+    requires exponential { IsExponentialAdmitted scale e }
     ensures { IsTrue result ↔ EnclosesForward scale pair e f }
 {
     are_around(
@@ -87,7 +87,7 @@ pub fn encloses_excess(scale: u32, f: Ends, k0: u32, g: Ends) -> bool
 
 fn is_excess_around(scale: u32, f: Ends, k0: u32, g: Ends) -> bool
     requires scale { scale ≤ SCALE }
-    requires excess { IsExcessInRange scale g }
+    requires excess { IsExcessAdmitted scale g }
     ensures { IsTrue result ↔ (((g.lo *ℤ pos k0) ≤ℤ (f.lo -ℤ pos (k0 * 2 ^ scale)))
         × ((f.hi -ℤ pos (k0 * 2 ^ scale)) ≤ℤ (g.hi *ℤ pos k0))) }
 {
@@ -96,7 +96,7 @@ fn is_excess_around(scale: u32, f: Ends, k0: u32, g: Ends) -> bool
 
 fn is_excess_in_range(scale: u32, g: Ends) -> bool
     requires { scale ≤ SCALE }
-    ensures { IsTrue result ↔ IsExcessInRange scale g }
+    ensures { IsTrue result ↔ IsExcessAdmitted scale g }
 {
     0 <= g.lo && g.lo <= g.hi && g.hi <= limit(scale, EXCESS_MAX) as i128
 }

@@ -2,7 +2,7 @@
 
 ghost use Rattle.std.specs.Prelude.{◌≡◌, ◌*◌, ◌^◌, ◌≤◌, ◌↔◌, IsTrue, pos, ◌-ℤ◌, ◌*ℤ◌, ◌≤ℤ◌};
 ghost use Rattle.vx_claims.specs.TermTests.{EnclosesVariance, IsWithin};
-ghost use Rattle.vx_tests.specs.Ranges.{IsExponentialInRange, IsExcessInRange, IsTotalInRange, IsVarianceInRange};
+ghost use Rattle.vx_tests.specs.Ranges.{IsExponentialAdmitted, IsExcessAdmitted, IsTotalAdmitted, IsVarianceAdmitted};
 
 use crate::scale::{is_within, limit, product, scaled};
 use vx_cert::Ends;
@@ -11,9 +11,9 @@ use vx_claims::limits::{SCALE, VARIANCE_MAX};
 /// The ends enclose twice the exponential times the strip's sum, less the square of the excess.
 pub fn encloses_variance(scale: u32, e: Ends, g: Ends, s: Ends, w: Ends) -> bool
     requires scale { scale ≤ SCALE }
-    requires exponential { IsExponentialInRange scale e }
-    requires excess { IsExcessInRange scale g }
-    requires total { IsTotalInRange scale s }
+    requires exponential { IsExponentialAdmitted scale e }
+    requires excess { IsExcessAdmitted scale g }
+    requires total { IsTotalAdmitted scale s }
     ensures { IsTrue result ↔ EnclosesVariance scale e g s w }
 {
     is_variance_in_range(scale, w)
@@ -27,7 +27,7 @@ pub fn encloses_variance(scale: u32, e: Ends, g: Ends, s: Ends, w: Ends) -> bool
 
 fn is_variance_around(scale: u32, w: Ends, low: i128, high: i128) -> bool
     requires scale { scale ≤ SCALE }
-    requires in_range { IsVarianceInRange scale w }
+    requires in_range { IsVarianceAdmitted scale w }
     ensures { IsTrue result ↔ (((w.lo *ℤ pos (2 ^ scale)) ≤ℤ low) × (high ≤ℤ (w.hi *ℤ pos (2 ^ scale)))) }
 {
     is_variance_below(scale, w.lo, low) && is_variance_above(scale, w.hi, high)
@@ -35,7 +35,7 @@ fn is_variance_around(scale: u32, w: Ends, low: i128, high: i128) -> bool
 
 pub(crate) fn is_variance_in_range(scale: u32, w: Ends) -> bool
     requires { scale ≤ SCALE }
-    ensures { IsTrue result ↔ IsVarianceInRange scale w }
+    ensures { IsTrue result ↔ IsVarianceAdmitted scale w }
 {
     is_within(limit(scale, VARIANCE_MAX), w.lo) && is_within(limit(scale, VARIANCE_MAX), w.hi)
 }

@@ -2,7 +2,7 @@
 ghost use Rattle.std.specs.Prelude.{List, OnOk, IsSome, IsSomeAnd, slice_get};
 ghost use Rattle.vx_feed.specs.declared.events.Event.{Event};
 ghost use Rattle.vx_feed.specs.Noted as noted;
-ghost use Rattle.vx_replay.specs.StandsFor.{HasPlace, MayStep, StandsFor, Steps as StepsTo};
+ghost use Rattle.vx_replay.specs.StandsFor.{HasPlace, MayStep, ReplayStandsFor, Steps as StepsTo};
 
 use super::Replay;
 use crate::answer::TickAnswer;
@@ -94,8 +94,9 @@ fn holds_after_line(
     replay: &mut Replay,
     sums: (&Held, &Held),
 ) -> Result<bool, Fail>
-    requires { (events : List Event) × noted.StandsFor seen.old events × StandsFor replay.old events }
-    ensures { OnOk result ((events : List Event) × noted.StandsFor seen.new events × StandsFor replay.new events) }
+    requires { (events : List Event) × noted.StandsFor seen.old events × ReplayStandsFor replay.old events }
+    ensures { OnOk result ((events : List Event) × noted.StandsFor seen.new events
+        × ReplayStandsFor replay.new events) }
 {
     let event = read_event(alloc, line.as_bytes(), seen)?;
     seen.note(&event)?;

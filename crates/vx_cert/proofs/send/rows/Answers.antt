@@ -3,7 +3,7 @@ use Rattle.std.proofs.lemmas.Result.{on_ok_weaker}
 use Rattle.serde.specs.Event.{Logs, seq_begins}
 use Rattle.serde_json.specs.Events.{SendsItems}
 use Rattle.serde_json.specs.View.{items_of}
-use Rattle.vx_cert.specs.Form.{row_of}
+use Rattle.vx_cert.specs.Form.{row_in}
 use Rattle.vx_cert.specs.Written.{row_data}
 use Rattle.vx_cert.proofs.Values.{mapped_len, sent_item, sent_all}
 use Rattle.vx_cert.proofs.WrittenBack.{back_in, back_all}
@@ -16,7 +16,7 @@ loop-item-preserved g c = record {
       sent_item row_data c.items-items.result.now c.args.rows.now c.loop-item.item-index _ (g.S.Serializer.written c.loop-item.out) (g.S.Serializer.written c.row.new.out)
       (λ end. SendsItems (items_of (map row_data c.args.rows.now)) (g.S.Serializer.written c.begin_seq.new.self) end) c.items-items.ensures c.loop-item-test.true c.in_ok-row.ensures.sent c.loop-item.invariant.sent;
   read_back =
-      back_in row_of row_data c.items-items.result.now c.args.rows.now c.loop-item.item-index _ c.items-items.ensures c.loop-item-test.true
+      back_in row_in row_data c.items-items.result.now c.args.rows.now c.loop-item.item-index _ c.items-items.ensures c.loop-item-test.true
       c.in_ok-row.ensures.read_back c.loop-item.invariant.read_back;
 }
 
@@ -34,4 +34,4 @@ returns-clause-sent g c =
 
 pub returns-clause-read_back : goal.returns-clause-read_back
 returns-clause-read_back g c =
-    on_ok c.end_seq.result (back_all row_of row_data c.items-items.result.now c.args.rows.now c.loop-item.item-index c.items-items.ensures c.loop-item-test.false c.loop-item.invariant.read_back)
+    on_ok c.end_seq.result (back_all row_in row_data c.items-items.result.now c.args.rows.now c.loop-item.item-index c.items-items.ensures c.loop-item-test.false c.loop-item.invariant.read_back)

@@ -2,7 +2,7 @@ use Rattle.std.proofs.Common.{get_or, ap, subst}
 use Rattle.vx_clock.specs.declared.terms.Expiry.{Expiry}
 use Rattle.vx_feed.specs.Listed.{expiry_of}
 use Rattle.vx_check.specs.Kept.{is_table_of}
-use Rattle.vx_check.specs.Tables.{IsFirstAt, IsSameTable, ListsInTable}
+use Rattle.vx_check.specs.Tables.{IsFirstAt, IsTableKept, ListsInTable}
 use Rattle.vx_check.proofs.TableSeries.{on_ok_from, on_err_from}
 use Rattle.vx_check.proofs.TableLists.{changed_at, same_from_changed}
 use Rattle.vx_check.proofs.tables.list.Goals as goal
@@ -26,8 +26,8 @@ returns-in-Some-clause-refused c =
     let tables = c.args.tables.now in
     let place = c.in-Some.place in
     let old = get_or tables place c.index-tables-place.result in
-    on_err_from c.list.result (IsSameTable old c.list.new.self) _
-    (λ (same : IsSameTable old c.list.new.self).
+    on_err_from c.list.result (IsTableKept old c.list.new.self) _
+    (λ (same : IsTableKept old c.list.new.self).
     same_from_changed x tables _
-    (changed_at x IsSameTable place tables old c.list.new.self c.in-Some.ensures.first (ap (get_or tables place) c.index-tables-place.is) same.expiry same))
+    (changed_at x IsTableKept place tables old c.list.new.self c.in-Some.ensures.first (ap (get_or tables place) c.index-tables-place.is) same.expiry same))
     c.list.ensures.refused

@@ -3,7 +3,7 @@ use Rattle.vx_clock.specs.declared.terms.Expiry.{Expiry}
 use Rattle.vx_symbol.specs.declared.rows.Price.{Price}
 use Rattle.vx_feed.specs.Listed.{expiry_of}
 use Rattle.vx_check.specs.Kept.{is_table_of}
-use Rattle.vx_check.specs.Tables.{IsFirstAt, SetsPrice, SetsPriceInTable, QuotesInTable}
+use Rattle.vx_check.specs.Tables.{IsFirstAt, PutsPrice, SetsPriceInTable, QuotesInTable}
 use Rattle.vx_check.proofs.TableLists.{changed_at}
 use Rattle.vx_check.proofs.tables.quote.Goals as goal
 
@@ -15,7 +15,7 @@ returns-in-Some c =
     let old = get_or tables place c.index-tables-place.result in
     let new = c.set_price.new.self in
     let First : Expiry → Type 0 = λ x. IsFirstAt (is_table_of x) place tables in
-    let Sets : Price → Type 0 = λ price. SetsPrice s.side s.strike price old.rows.items new.rows.items old.halves.items new.halves.items in
+    let Sets : Price → Type 0 = λ price. PutsPrice s.side s.strike price old.rows.items new.rows.items old.halves.items new.halves.items in
     let sets : SetsPriceInTable s.side s.strike c.quoted.result old new = c.set_price.ensures in
     let quotes : QuotesInTable s.side s.strike c.args.bid c.args.ask old new = record {
       expiry = sets.expiry;

@@ -3,7 +3,7 @@ use Rattle.vx_clock.specs.declared.terms.Expiry.{Expiry}
 use Rattle.vx_symbol.specs.declared.rows.Price.{Price}
 use Rattle.vx_feed.specs.Listed.{expiry_of}
 use Rattle.vx_check.specs.Kept.{is_table_of}
-use Rattle.vx_check.specs.Tables.{IsFirstAt, IsSameTable, SetsTradeInTable, TradesInTable, is_listed_in_table}
+use Rattle.vx_check.specs.Tables.{IsFirstAt, IsTableKept, SetsTradeInTable, TradesInTable, is_listed_in_table}
 use Rattle.vx_check.specs.Trades.{SetsTrade}
 use Rattle.vx_check.proofs.TableSeries.{on_ok_from, on_err_from}
 use Rattle.vx_check.proofs.TableLists.{changed_at, same_from_changed}
@@ -38,9 +38,9 @@ returns-in-Some-clause-refused c =
     let tables = c.args.tables.now in
     let place = c.in-Some.place in
     let old = get_or tables place c.index-tables-place.result in
-    on_err_from c.trade.result (IsSameTable old c.trade.new.self) _
-    (λ (same : IsSameTable old c.trade.new.self).
+    on_err_from c.trade.result (IsTableKept old c.trade.new.self) _
+    (λ (same : IsTableKept old c.trade.new.self).
     same_from_changed x tables _
-    (changed_at x IsSameTable place tables old c.trade.new.self c.in-Some.ensures.first
+    (changed_at x IsTableKept place tables old c.trade.new.self c.in-Some.ensures.first
     (ap (get_or tables place) c.index-tables-place.is) same.expiry same))
     c.trade.ensures.refused

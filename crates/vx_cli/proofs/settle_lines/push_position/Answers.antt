@@ -1,7 +1,7 @@
 -- Each piece stands in front of those behind it.
 use Rattle.std.proofs.Common.{rules, ◌≡◌, ◌∙◌, ap, pos, [], ◌∷◌, ◌++◌, codes, drop}
 use Rattle.vx_num.specs.Written.{signed_text}
-use Rattle.vx_cli.specs.OutputLines.{count_text}
+use Rattle.vx_feed.specs.Written.{count_text}
 use Rattle.vx_cli.specs.SettleText.{amount_text, contract_word}
 use Rattle.vx_cli.proofs.LineLemmas.{piece_before, pieces_more}
 use Rattle.vx_cli.proofs.settle_lines.push_position.Goals as goal

@@ -8,7 +8,7 @@ use Rattle.vx_reading.proofs.FeedLemmas.{events_read}
 use Rattle.vx_drivers.specs.declared.exit.Exit.{Exit}
 use Rattle.vx_drivers.specs.declared.exit.Exit.TheVariants.{NoMemory}
 use Rattle.vx_drivers.specs.Exits.{exit_calls}
-use Rattle.vx_drivers.specs.Held.{held_by}
+use Rattle.vx_drivers.specs.Held.{held_in}
 use Rattle.vx_drivers.specs.PositionExits.{IsPositionExit}
 use Rattle.vx_drivers.specs.PositionSteps.{HasEndedPositions}
 use Rattle.vx_drivers.specs.Sending.{Sent, Text}
@@ -19,16 +19,16 @@ use Rattle.vx_drivers.proofs.position_run.open_run.Goals as goal
 
 pub returns-in-Err-clause-opens : goal.returns-in-Err-clause-opens
 returns-in-Err-clause-opens g c = λ positions side.
-    nothing_sent g.B.Sheet.SettlesPositions.rules (held_by (g.D.Desk.told c.args.desk.now)) (feed_told (g.D.Desk.told c.args.desk.now)) positions
+    nothing_sent g.B.Sheet.SettlesPositions.rules (held_in (g.D.Desk.told c.args.desk.now)) (feed_told (g.D.Desk.told c.args.desk.now)) positions
     (g.D.Desk.told c.args.desk.now)
     (g.D.Desk.told c.args.desk.now) NoMemory refl refl refl memory_not_side
 
 pub returns-in-Err-read_to_end-clause-opens : goal.returns-in-Err-read_to_end-clause-opens
 returns-in-Err-read_to_end-clause-opens g c = λ positions side.
     let told = g.D.Desk.told c.args.desk.now in
-    subst (λ (e : Exit). HasEndedPositions g.B.Sheet.SettlesPositions.rules (held_by told) (feed_told told) positions told
+    subst (λ (e : Exit). HasEndedPositions g.B.Sheet.SettlesPositions.rules (held_in told) (feed_told told) positions told
     (g.D.Desk.told c.read_to_end.new.desk) e) (sym c.from.ensures)
-    (feed_stops g.B.Sheet.SettlesPositions.rules g.B.TakesEvents.StandsFor (held_by told) (feed_told told) positions c.read_to_end.new.self told
+    (feed_stops g.B.Sheet.SettlesPositions.rules g.B.TakesEvents.StandsFor (held_in told) (feed_told told) positions c.read_to_end.new.self told
     (g.D.Desk.told c.read_to_end.new.desk)
     c.in-Err-read_to_end.stop (c.in-Err-read_to_end.ensures.others Out out_not_feed) (c.in-Err-read_to_end.ensures.others Certs certs_not_feed)
     (c.in-Err-read_to_end.ensures.reads (told Feed).left (feed_told told) [] (c.in-Ok.ensures told)))
@@ -49,7 +49,7 @@ returns-in-Err-read_to_end-clause-step g c =
 
 pub returns-in-Err-answer_opening-clause-opens : goal.returns-in-Err-answer_opening-clause-opens
 returns-in-Err-answer_opening-clause-opens g c = λ positions side.
-    nothing_sent g.B.Sheet.SettlesPositions.rules (held_by (g.D.Desk.told c.args.desk.now)) (feed_told (g.D.Desk.told c.args.desk.now)) positions
+    nothing_sent g.B.Sheet.SettlesPositions.rules (held_in (g.D.Desk.told c.args.desk.now)) (feed_told (g.D.Desk.told c.args.desk.now)) positions
     (g.D.Desk.told c.args.desk.now)
     (g.D.Desk.told c.read_to_end.new.desk) NoMemory (c.in-Ok-read_to_end.ensures.others Out out_not_feed)
     (c.in-Ok-read_to_end.ensures.others Certs certs_not_feed) refl memory_not_side
@@ -82,7 +82,7 @@ returns-clause-opens g c = λ positions side.
     (events_read (told Feed).left reads.0 c.read_to_end.new.self read reads.1.read) in
     let first = subst (λ (t : Text). CutsBoth t c.as_slice-2.result.now read sent c.in-Err-send_both.exit) c.as_slice.ensures.value c.in-Err-send_both.ensures.sends in
     let cuts = subst (λ (t : Text). CutsBoth c.answer_opening.new.certificate.items t read sent c.in-Err-send_both.exit) c.as_slice-2.ensures.value first in
-    opening_cut g.B.Sheet.SettlesPositions.rules g.B.Sheet.SettlesPositions.StandsAt (held_by told)
+    opening_cut g.B.Sheet.SettlesPositions.rules g.B.Sheet.SettlesPositions.StandsAt (held_in told)
     (feed_told told) positions reads.0 c.answer_opening.new.certificate.items c.answer_opening.new.line.items
     c.in-Ok-answer_opening.sheet told read sent c.in-Err-send_both.exit reads.2 were_read side opens
     (c.in-Ok-read_to_end.ensures.others Out out_not_feed) (c.in-Ok-read_to_end.ensures.others Certs certs_not_feed) cuts

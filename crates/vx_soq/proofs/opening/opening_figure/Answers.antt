@@ -5,7 +5,7 @@ use Rattle.std.proofs.lemmas.Option.{slice_get_within}
 use Rattle.std.proofs.lemmas.Result.{IfOk-weaker}
 use Rattle.vx_clock.specs.declared.terms.Expiry.{Expiry}
 use Rattle.vx_feed.specs.declared.events.Event.{Event}
-use Rattle.vx_book.specs.StandsFor.{StandsFor}
+use Rattle.vx_book.specs.StandsFor.{BookStandsFor}
 use Rattle.vx_claims.specs.Seen.{opening_expiry}
 use Rattle.vx_soq.specs.declared.answer.OpeningAnswer.TheVariants.{Refused}
 use Rattle.vx_soq.specs.declared.answer.SoqReason.TheVariants.{NoOpening, NoTerm}
@@ -13,7 +13,7 @@ use Rattle.vx_soq.specs.Complete.{PublishesWhereClear, RefusesWhereClear}
 use Rattle.vx_soq.specs.Figures.{IsAnswerByTerm}
 use Rattle.vx_soq.specs.Lawful.{IsLawfulOpening}
 use Rattle.vx_soq.specs.Openings.{HasNoTerm, IsOpeningAnswer}
-use Rattle.vx_soq.specs.Written.{CanBeWritten}
+use Rattle.vx_soq.specs.Written.{IsWritable}
 use Rattle.vx_soq.proofs.Completeness.{clear_opening_is_published, first_opening_refusal_is_answered}
 use Rattle.vx_soq.proofs.FromBook.{answered, unopened, opened_parts}
 use Rattle.vx_soq.proofs.LawfulOpenings.{opening_answer_is_lawful}
@@ -22,7 +22,7 @@ use Rattle.vx_soq.proofs.opening.opening_figure.Goals as goal
 
 pub returns-in_default : goal.returns-in_default
 returns-in_default c =
-    let is : (events : List Event) → StandsFor c.args.book.now events → IsOpeningAnswer events (Refused NoOpening) =
+    let is : (events : List Event) → BookStandsFor c.args.book.now events → IsOpeningAnswer events (Refused NoOpening) =
     λ events h. unopened events (sym (c.in_default.ensures.value events h)) in
     record {
       answer = is;
@@ -34,7 +34,7 @@ returns-in_default c =
 
 pub returns-in_default-term_place : goal.returns-in_default-term_place
 returns-in_default-term_place c =
-    let is : (events : List Event) → StandsFor c.args.book.now events → HasNoTerm events =
+    let is : (events : List Event) → BookStandsFor c.args.book.now events → HasNoTerm events =
     λ events h. record {
       is_taken = ap is_some (opened_parts events c.in-Some.opened (sym (c.in-Some.ensures.value events h))).time_is;
       no_term = c.in_default-term_place.ensures events h;
@@ -63,7 +63,7 @@ returns c =
     let opened = c.in-Some.opened in
     let place = c.in-Some-term_place.place in
     let view = c.opening_term-term.result in
-    let is : (events : List Event) → StandsFor c.args.book.now events → IfOk result (IsOpeningAnswer events) =
+    let is : (events : List Event) → BookStandsFor c.args.book.now events → IfOk result (IsOpeningAnswer events) =
     λ events h. IfOk-weaker result (IsAnswerByTerm opened.line opened.time said) (IsOpeningAnswer events)
     (λ answer joined. answered events opened place view said answer (sym (c.in-Some.ensures.value events h))
     (c.in-Some-term_place.ensures events h)
@@ -81,6 +81,6 @@ returns c =
           IfOk-weaker result (IsOpeningAnswer events) (RefusesWhereClear events)
           (λ a. first_opening_refusal_is_answered events a lawful) (is events h);
       writable = λ events h lawful.
-          IfOk-weaker result (IsOpeningAnswer events) CanBeWritten
+          IfOk-weaker result (IsOpeningAnswer events) IsWritable
           (λ a. opening_can_be_written events a lawful) (is events h);
     }

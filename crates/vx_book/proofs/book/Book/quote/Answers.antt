@@ -7,7 +7,7 @@ use Rattle.vx_feed.specs.declared.events.Event.{Event}
 use Rattle.vx_feed.specs.Listed.{expiry_of}
 use Rattle.vx_book.specs.declared.book.Book.{Book}
 use Rattle.vx_book.specs.declared.series.Series.{Series}
-use Rattle.vx_book.specs.StandsFor.{StandsFor}
+use Rattle.vx_book.specs.StandsFor.{BookStandsFor}
 use Rattle.vx_book.proofs.NextBook.{table_at}
 use Rattle.vx_book.proofs.NextSeries.{kept_expiry, kept_strike, place_within, stands_quoted_alone, stands_quoted_row, stands_unquoted}
 use Rattle.vx_book.proofs.book.Book.quote.Goals as goal
@@ -20,7 +20,7 @@ series_of found = option_map (λ pair. pair.1) found
 abbrev with_last : ℕ → Book → Book
 with_last place book = record book { last = place }
 
-stands_at_place : (book : Book) (place : ℕ) (events : List Event) → StandsFor book events → StandsFor (with_last place book) events
+stands_at_place : (book : Book) (place : ℕ) (events : List Event) → BookStandsFor book events → BookStandsFor (with_last place book) events
 stands_at_place book place events h = record {
   lines = h.lines;
   day = h.day;

@@ -2,7 +2,7 @@ use Rattle.std.proofs.Common.{◌++◌, sym, ◌∙◌, ap, option_and_then, opt
 use Rattle.std.specs.Prelude.{is_some}
 use Rattle.std.specs.Option.{option_or}
 use Rattle.vx_feed.specs.Listed.{header_day, declared_expiry}
-use Rattle.vx_check.specs.StandsFor.{tick_minute}
+use Rattle.vx_feed.specs.Order.{tick_minute}
 use Rattle.vx_check.proofs.Pushes.{one_line_more, last_event-push, trade_date-push, declared-push, length-push}
 use Rattle.vx_check.proofs.NextTables.{all_say_after, expiries_after}
 use Rattle.vx_check.proofs.NextTrades.{all_traded_after}

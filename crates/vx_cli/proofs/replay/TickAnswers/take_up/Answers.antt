@@ -1,7 +1,7 @@
 -- Behind an event that is no tick there is no answer.
 use Rattle.std.proofs.Common.{rules, ◌≡◌, sym, subst, [], ◌∷◌, ◌++◌, Option, None}
 use Rattle.vx_replay.specs.declared.replay.Replay.{Replay}
-use Rattle.vx_replay.specs.StandsFor.{StandsFor}
+use Rattle.vx_replay.specs.StandsFor.{ReplayStandsFor}
 use Rattle.vx_cli.specs.declared.replay.TimedAnswer.{TimedAnswer}
 use Rattle.vx_cli.specs.LastAnswer.{GivesTimed}
 use Rattle.vx_cli.proofs.AnswerLemmas.{is_no_tick, no_tick}
@@ -12,7 +12,7 @@ take_up-requires-clause-no_tick c = is_no_tick c.args.event c.requires.no_tick
 
 pub returns-clause-taken : goal.returns-clause-taken
 returns-clause-taken c = λ events h next. record {
-  stands = subst (λ (r : Replay). StandsFor r (events ++ c.args.event ∷ [])) (sym c.let_go.ensures.replay)
+  stands = subst (λ (r : Replay). ReplayStandsFor r (events ++ c.args.event ∷ [])) (sym c.let_go.ensures.replay)
       (c.in_ok-take_up.ensures.stands events h.stands next);
   gives = subst (λ (o : Option TimedAnswer). GivesTimed (events ++ c.args.event ∷ []) o) (sym c.let_go.ensures.none)
       (no_tick events c.args.event c.requires.no_tick);
